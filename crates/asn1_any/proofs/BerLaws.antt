@@ -62,12 +62,12 @@ prepend levels Next piece after octets within whole ends = record {
   next = ends.next;
 }
 
--- a walk that answers only where elements end
+-- a walk that returns only at places where elements end
 abbrev Finds : (ℕ → ℕ → List ℕ → Rest) → List ℕ → Type 0
 Finds go rest = (levels nested : ℕ) (octets : List ℕ) → AllBelowBase 256 octets → go levels nested octets ≡ Ok rest → AllEnd levels nested rest octets
 
 module _ (go : ℕ → ℕ → List ℕ → Rest) (rest : List ℕ) (finds : Finds go rest) where
-  -- a piece that isn't 00 00, behind a header
+  -- a piece that isn't 00 00, after a header
   piece_within : (levels : ℕ) (octets after body content tail : List ℕ) (h : BerHead) → end_at octets ≡ None → BeginsWithBer octets h after →
       after ≡ body ++ tail → Closes (IsWithin levels) h.size content body →
       (piece : List ℕ) × IsWithin (suc levels) piece × (octets ≡ piece ++ tail)
@@ -173,7 +173,7 @@ leads levels piece octets tail within whole =
       whole = split;
     }
 
--- what is left of open elements behind the first piece within the innermost
+-- what is left of open elements after the first piece within the innermost
 left_ends : (levels : ℕ) (Next : List ℕ → Type 0) (pieces : List (List ℕ)) (after : List ℕ) → AllByRecursion (IsWithin levels) pieces → Next after →
     Ends levels Next (concat pieces ++ (end_of_contents ++ after))
 left_ends levels Next pieces after each next = record { content = concat pieces; after = after; each = record { pieces = pieces; each = each; whole = refl }; whole = refl; next = next }
@@ -240,7 +240,7 @@ ends_header (suc levels) octets after (piece ∷ pieces) each whole =
     let l = leads levels piece octets tail each.0 (whole ∙ append_assoc piece (concat pieces) (end_of_contents ++ after)) in
     (l.e.head, (l.body ++ tail, l.read))
 
--- a walk that lacks octets only where no fewer make it end
+-- a walk that lacks octets only if no fewer make it end
 abbrev Lacks : (ℕ → ℕ → List ℕ → Rest) → ℕ → List ℕ → List ℕ → ℕ → Type 0
 Lacks go steps rest more n = (levels nested : ℕ) (octets : List ℕ) → AllBelowBase 256 octets → length octets ≤ steps → go levels nested octets ≡ Err (refusals.Incomplete (needed.Size n)) →
     AllEnd levels nested rest (octets ++ more) → ⊥

@@ -15,7 +15,7 @@ use Rattle.asn1_any.proofs.DerLaws.{definite_begins, strict_begins}
 use Rattle.asn1_any.proofs.Readings.{part_found, part_only}
 use Rattle.asn1_any.proofs.BerLaws.{Ends, AllEnd, ends_found, ends_only}
 
--- an element behind its header
+-- an element after its header
 record Follows (levels : ℕ) (h : BerHead) (after : List ℕ) (e : BerElement) (rest : List ℕ) : Type 0 where
   pub head : e.head ≡ h
   pub body : List ℕ
@@ -104,7 +104,7 @@ contents_long levels after rest below walk =
     let last = ap length ends.next in
     omega (arith, length-append ends.content (end_of_contents ++ ends.after))
 
--- behind its header, in the octets that begin with an element
+-- after its header, in the octets that begin with an element
 pub header_first : (levels : ℕ) (octets rest : List ℕ) (e : BerElement) (begins : BeginsWithBerElement levels octets e rest) → ber_header_at octets ≡ Ok (e.head, begins.spells.body ++ rest)
 header_first levels octets rest e begins =
     let spells = begins.spells in

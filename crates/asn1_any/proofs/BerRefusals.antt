@@ -1,4 +1,4 @@
--- The refusals of the BER reader: never want of memory; and how many octets are missing.
+-- The refusals of the BER reader: never for lack of memory; and how many octets are missing.
 use Rattle.std.proofs.Common.{◌≡◌, ◌≢◌, refl, sym, ◌∙◌, ap, subst, ℕ, zero, suc, ◌-◌, ◌<◌, Bool, true, false, Option, Some, None, List, ◌++◌, length, take, drop, Ok, Err, if◌then◌else◌, arith, length-append, append_assoc, inl, inr}
 use Rattle.std.specs.Prelude.{nat_lt}
 use Rattle.std.specs.Int.Digits.{AllBelowBase}
@@ -23,7 +23,7 @@ use Rattle.asn1_any.proofs.Refusals.{refused_steps, part_refused}
 use Rattle.asn1_any.proofs.BerLaws.{AllEnd, end_is, ends_lack}
 use Rattle.asn1_any.proofs.BerReading.{header_first}
 
--- a refusal of a reading that takes no memory; where octets are missing, some are
+-- a refusal of a reading that takes no memory; if octets are missing, some are
 abbrev IsPlain : Refusal Error → Type 0
 IsPlain (refusals.Incomplete needed.Unknown) = ⊥
 IsPlain (refusals.Incomplete (needed.Size n)) = 0 < n
@@ -101,7 +101,7 @@ header_told levels octets (refusals.Incomplete (needed.Size n)) refused = record
 header_told levels octets (refusals.Error e) refused = record { memory = refused; missing = tt }
 header_told levels octets (refusals.Failure e) refused = absurd refused
 
--- what comes behind the header of an element that begins octets with more after them
+-- what comes after the header of an element that begins octets with more after them
 record Continues (levels : ℕ) (h : BerHead) (after more : List ℕ) : Type 0 where
   content : List ℕ
   body : List ℕ

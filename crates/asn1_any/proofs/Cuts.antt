@@ -37,7 +37,7 @@ front_is octets front rest whole =
 pub element_long : (octets rest : List ℕ) (e : Element) → BeginsWithElement octets e rest → length rest + 2 ≤ length octets
 element_long octets rest e begins = omega (arith, element_takes octets rest e begins)
 
--- where no element is read, none begins the octets
+-- if no element is read, none begins the octets
 pub none_begins : (octets : List ℕ) (e : Refusal Error) → der_element_at octets ≡ Err e → ¬ HasElement octets
 none_begins octets e read has =
     let there : der_element_at octets ≡ Ok (has.0, has.1) = der_only octets has.1 has.0 has.2 in

@@ -1,4 +1,4 @@
--- The refusals of the element readers: never want of memory; and how many octets are missing.
+-- The refusals of the element readers: never for lack of memory; and how many octets are missing.
 use Rattle.std.proofs.Common.{◌≡◌, refl, sym, ◌∙◌, ap, subst, ℕ, ◌-◌, ◌<◌, Bool, true, false, List, ◌++◌, length, take, drop, Ok, Err, if◌then◌else◌, arith, length-append, append_assoc, ◌⊎◌, inl, inr}
 use Rattle.std.specs.Prelude.{nat_lt}
 use Rattle.std.specs.Int.Digits.{AllBelowBase}

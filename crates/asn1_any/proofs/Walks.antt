@@ -58,7 +58,7 @@ refuse_step zero levels (suc nested) octets d enough inner none read =
     ap Err same
 refuse_step (suc steps) levels (suc nested) octets d enough inner none read = rw (none, read) refl
 
--- behind a header, with a level left or without
+-- after a header, with a level left or without
 level_step : (go : ℕ → ℕ → List ℕ → Rest) (levels nested : ℕ) (h : BerHead) (after : List ℕ) → 0 < levels →
     past_header go levels nested (Ok (h, after)) ≡ past_length go (levels - 1) nested h.size after
 level_step go zero nested h after left = absurd (omega arith)

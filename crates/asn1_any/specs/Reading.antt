@@ -28,7 +28,7 @@ content_at h after = then_read (part_at h.size after) (λ content rest. Ok (elem
 unfoldable pub der_element_at : List ℕ → Answer Element
 der_element_at octets = then_read (header_at octets) content_at
 
--- the element that begins the octets, and the octets after it, where there is one
+-- the element that begins the octets, and the octets after it, if there is one
 abbrev pub any_der : List ℕ → Option (Element × List ℕ)
 any_der octets = result_ok (der_element_at octets)
 
@@ -36,7 +36,7 @@ any_der octets = result_ok (der_element_at octets)
 abbrev pub Rest : Type 0
 Rest = Result (List ℕ) (Refusal Error)
 
--- the octets after end-of-contents octets, where these begin them
+-- the octets after end-of-contents octets, if these begin them
 abbrev pub end_at : List ℕ → Option (List ℕ)
 end_at [] = None
 end_at (first ∷ []) = None
@@ -96,7 +96,7 @@ abbrev pub ber_levels_at : ℕ → List ℕ → Answer BerElement
 ber_levels_at zero octets = then_read (ber_header_at octets) (λ h after. refuse errors.BerMaxDepth)
 ber_levels_at (suc levels) octets = ber_element_at levels octets
 
--- the BER element that begins the octets, and the octets after it, where there is one of at most 50
+-- the BER element that begins the octets, and the octets after it, if there is one of at most 50
 -- levels
 abbrev pub any_ber : List ℕ → Option (Element × List ℕ)
 any_ber octets = option_map (λ p. (element_of_ber p.0, p.1)) (result_ok (ber_element_at (MAX_RECURSION - 1) octets))

@@ -70,7 +70,7 @@ pub(crate) fn der_element_counted<'a>(
     definite(header, after)
 }
 
-// The octets after end-of-contents octets, where these begin them (X.690, 8.1.5).
+// The octets after end-of-contents octets, if these begin them (X.690, 8.1.5).
 fn after_end(octets: &[u8]) -> Option<&[u8]>
     ensures { option_map (λ r. r.now) result ≡ end_at octets.now }
 {

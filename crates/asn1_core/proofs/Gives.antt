@@ -1,4 +1,4 @@
--- From a clause `Gives view result (reading octets)` to facts on what was answered.
+-- From a clause `Gives view result (reading octets)` to facts on what was returned.
 use Rattle.std.proofs.Common.{◌≡◌, Result, Ok, Err, IfOk, IfErr, IsOkAnd, sym, ap}
 use Rattle.asn1_core.specs.declared.error.Error.{Error}
 use Rattle.asn1_core.specs.declared.outcome.Err.{Err as Refusal}
@@ -10,7 +10,7 @@ pub gives_found : {X Y : Type 0} (view : X → Y) (r : Result X (Refusal Error))
 gives_found view (Ok x) read P given each = each (view x) given
 gives_found view (Err e) read P given each = tt
 
--- what the reading answers, the call does
+-- what the reading returns, the call returns
 pub gives_only : {X A B : Type 0} (f : X → A) (g : X → B) (r : Result X (Refusal Error)) (a : A) (b : B) → Gives {Y = A × B} (λ x. (f x, g x)) r (Ok (a, b))
     → IsOkAnd r (λ x. (f x ≡ a) × (g x ≡ b))
 gives_only {X = X} {A = A} {B = B} f g (Ok x) a b given =

@@ -14,7 +14,7 @@ abbrev pub IsMeasured : List ℕ → Option ℕ → List ℕ → Type 0
 IsMeasured octets (Some n) rest = (n < 2 ^ 64) × ((front : List ℕ) × SpellsLength front n × (octets ≡ front ++ rest))
 IsMeasured octets None rest = octets ≡ 128 ∷ rest
 
--- digits that were read are as many as were told
+-- digits that were read are as many as the first octet counts
 record IsSized (count : ℕ) (octets : List ℕ) (size : Option ℕ) (rest : List ℕ) : Type 0 where
   pub enough : count ≤ length octets
   pub number : ℕ

@@ -14,7 +14,7 @@ same_split before front xs ys same e =
     let tails : xs ≡ ys = sym (drop-append_seam before xs) ∙ ap₂ (λ n l. drop n l) same e ∙ drop-append_seam front ys in
     (heads, tails)
 
--- fronts of one list with the same rest behind them are one
+-- fronts of one list with one rest after them are equal
 same_front : (f g xs ys : List ℕ) → xs ≡ ys → f ++ xs ≡ g ++ ys → f ≡ g
 same_front f g xs ys same e =
     let sizes : length f ≡ length g = omega (arith, length-append f xs, length-append g ys, ap length e, ap length same) in

@@ -6,7 +6,7 @@ use Rattle.std.proofs.lemmas.Nat.{div-mul-add, mod-mul-add}
 use Rattle.std.proofs.lemmas.List.Elements.{recursion_from_All, All-from_get_or}
 use Rattle.asn1_core.specs.Digits.{AreDigits, continued}
 
--- digits behind those of n, which isn't 0, are the digits of the number that they make
+-- digits after those of n, which isn't 0, are the digits of the number that they make
 pub digits_after : (b n : ℕ) (ds : List ℕ) → 2 ≤ b → 0 < n → AllBelowBase b ds → digits_of b (number_from_digits_after b n ds) ≡ digits_of b n ++ ds
 digits_after b n [] two pos below = sym (append-nil (digits_of b n))
 digits_after b n (d ∷ ds) two pos below =

@@ -1,4 +1,4 @@
--- The refusals of the readings: never want of memory; and how many octets are missing.
+-- The refusals of the readings: never for lack of memory; and how many octets are missing.
 use Rattle.std.proofs.Common.{◌≡◌, ◌≢◌, ℕ, ◌+◌, ◌-◌, ◌*◌, ◌%◌, ◌^◌, ◌<◌, ◌==◌, nat_lt, true, false, Option, Some, None, List, [], ◌∷◌, ◌++◌, length, take, Ok, Err, ◌⊎◌, inl, inr, refl, ap, ◌∙◌, subst, arith, append_assoc, lt-ltb, ltb-true, length-append}
 use Rattle.std.specs.Int.Digits.{number_from_digits, AllBelowBase}
 use Rattle.asn1_core.specs.declared.error.Error.{Error}
@@ -16,7 +16,8 @@ use Rattle.asn1_core.proofs.Identities.{identity_found, identity_again}
 use Rattle.asn1_core.proofs.Headers.{header_again, ber_header_again}
 use Rattle.asn1_core.proofs.StrictLaws.{header_is_lenient}
 
--- a refusal of a reading: never want of memory, and with fewer octets than are missing it answers nothing
+-- a refusal of a reading: never for lack of memory, and with fewer octets than are missing it
+-- returns nothing
 abbrev pub IsRefused : {A : Type 0} → (List ℕ → Answer A) → List ℕ → Refusal Error → Type 0
 IsRefused reading octets (refusals.Incomplete needed.Unknown) = ⊥
 IsRefused {A} reading octets (refusals.Incomplete (needed.Size n)) = (0 < n) × ((more : List ℕ) → length more < n → (y : A × List ℕ) → reading (octets ++ more) ≡ Ok y → ⊥)

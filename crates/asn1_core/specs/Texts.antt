@@ -58,7 +58,7 @@ abbrev pub needed_text : Needed → List ℕ
 needed_text needed.Unknown = codes "unknown"
 needed_text (needed.Size n) = decimal n
 
--- the text of the held error is given, where its type states it
+-- the text of the held error is given, if its type states it
 abbrev pub refusal_text : {E : Type 0} → (E → Option (List ℕ)) → Refusal E → Option (List ℕ)
 refusal_text text (refusals.Incomplete n) = Some (codes "incomplete " ++ needed_text n)
 refusal_text text (refusals.Error e) = Some (codes "error ") ++? text e

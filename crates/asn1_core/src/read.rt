@@ -24,7 +24,7 @@ struct Identifier {
     tag: u32,
 }
 
-// The number with one more digit of base 128, where it fits.
+// The number with one more digit of base 128, if it fits.
 fn with_digit(number: u32, digit: u8) -> Option<u32>
     ensures { SomeIff result (number * 128 + digit < 2 ^ 32) (number * 128 + digit) }
 {
@@ -91,7 +91,7 @@ fn read_identifier(i: &[u8]) -> ParseResult<'_, Identifier>
     Ok((after, found))
 }
 
-// The number of these digits of base 256, where it fits; most lengths have one digit or two.
+// The number of these digits of base 256, if it fits; most lengths have one digit or two.
 #[inline]
 fn number_of(digits: &[u8]) -> Option<usize>
     ensures { SomeIff result (number_from_digits 256 digits.now < 2 ^ 64) (number_from_digits 256 digits.now) }
@@ -103,7 +103,7 @@ fn number_of(digits: &[u8]) -> Option<usize>
     }
 }
 
-// The number of any count of digits of base 256, one after the other, where it fits.
+// The number of any count of digits of base 256, one after the other, if it fits.
 fn large_number_of(digits: &[u8]) -> Option<usize>
     ensures { SomeIff result (number_from_digits 256 digits.now < 2 ^ 64) (number_from_digits 256 digits.now) }
 {

@@ -119,7 +119,7 @@ impl<W: Write> Sink for WriteSink<W> {
     }
 }
 
-// One write, tried again where a signal interrupts it.
+// One write, tried again if a signal interrupts it.
 fn write_retrying<W: Write>(writer: &mut W, octets: &[u8]) -> Result<usize, DeviceFault>
     ensures bound { IfOk result (λ n. n ≤ length octets.now) }
     ensures octets { WriteAppends (W.contents writer.old) (W.contents writer.new) result octets.now }

@@ -103,7 +103,7 @@ impl<R: Read> Source for ReadSource<R> {
     }
 }
 
-// One read, tried again where a signal interrupts it.
+// One read, tried again if a signal interrupts it.
 fn read_retrying<R: Read>(reader: &mut R, buf: &mut [u8]) -> Result<usize, DeviceFault>
     ensures bound { IfOk result (λ n. n ≤ length buf.new) }
     ensures octets { ReadConsumes (R.remaining reader.old) (R.remaining reader.new) result buf.new }

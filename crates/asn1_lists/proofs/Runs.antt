@@ -9,7 +9,7 @@ use Rattle.asn1_traits.specs.Lists.{AllRead}
 use Rattle.asn1_traits.specs.ListLaws.{OneRest}
 use Rattle.asn1_lists.specs.Steps.{Steps, NoneTakes, Given, ValuesOr}
 
--- nothing is given behind nothing
+-- nothing is given after nothing
 none_behind : {V E : Type 0} (gives : Error → E → Type 0) (grows : Type 0) (reads : List ℕ → V → List ℕ → Type 0) (octets last : List ℕ) (answers : List (Result V (Refusal E))) → octets ≡ [] →
     Yields (Steps gives grows reads) octets answers last → answers ≡ []
 none_behind gives grows reads octets last [] e run = refl
@@ -27,7 +27,7 @@ ends gives grows reads rest None step = (refl, step.1)
 ends gives grows reads rest (Some (Ok v)) step = absurd (omega (arith, step.1))
 ends gives grows reads rest (Some (Err r)) step = absurd (step.0 refl)
 
--- a refusal is want of memory, where a value is there
+-- a refusal is for lack of memory, if a value is there
 memory_alone : {E : Type 0} (gives : Error → E → Type 0) (grows : Type 0) (r : Refusal E) (none : Type 0) {V : Type 0} (answers : List (Result V (Refusal E))) → Refuses gives grows r none → (none → ⊥) → ValuesOr gives (Err r ∷ answers)
 memory_alone gives grows (refusals.Incomplete n) none answers h some = absurd h
 memory_alone gives grows (refusals.Error e) none answers h some = some h.0

@@ -17,7 +17,7 @@ pub high-push : (ds : List ℕ) (d : ℕ) → high (ds ++ d ∷ []) ≡ high ds 
 high-push [] d = refl
 high-push (a ∷ ds) d = ap (λ (l : List ℕ). (128 + a) ∷ l) (high-push ds d)
 
--- one more digit, where the number is not 0
+-- one more digit, if the number is not 0
 pub digits_of-push : (n d : ℕ) → d < 128 → 0 < n * 128 + d → digits_of 128 (n * 128 + d) ≡ digits_of 128 n ++ d ∷ []
 digits_of-push n d below some =
     let step = digits_of_step 128 (n * 128 + d) (omega arith) some in
@@ -34,7 +34,7 @@ pub subidentifier_octets-push : (n d : ℕ) → d < 128 → subidentifier_octets
 unfolding subidentifier_octets
 subidentifier_octets-push n d below = ap continued (shortest_digits-push n d below) ∙ continued-push (digits_of 128 n) d
 
--- the same, from the number
+-- a subidentifier's octets, from its number
 pub subidentifier_octets-split : (n : ℕ) → subidentifier_octets n ≡ high (digits_of 128 (n / 128)) ++ (n % 128) ∷ []
 subidentifier_octets-split n =
     let same : n ≡ n / 128 * 128 + n % 128 = omega arith in

@@ -61,7 +61,7 @@ unfolding is_small_after
 small-more n octet rest more fits above =
     rw (lt-ltb (n * 128 + octet % 128) (2 ^ 64) fits, le-ltb octet 128 more, lt-ltb 0 (n * 128 + octet % 128) above)
 
--- digits whose number is small are small, where n or their first is not 0, or there is only one
+-- digits whose number is small are small, if n or their first is not 0, or there is only one
 small-continued : (n d : ℕ) (ds rest : List ℕ) → AllBelowBase 128 (d ∷ ds) → (ds ≢ [] → 0 < n * 128 + d)
     → number_from_digits_after 128 n (d ∷ ds) < 2 ^ 64 → is_small_after n (continued (d ∷ ds) ++ rest) ≡ is_small_after 0 rest
 small-continued n d [] rest below some small =

@@ -8,7 +8,7 @@ use Rattle.asn1_traits.specs.Integers.{IsUnsigned, IsSigned}
 use Rattle.asn1_traits.specs.Leaves.{LeafMeans}
 use Rattle.asn1_traits.specs.Reads.{ReadsOf}
 
--- a value that the element means, or an error where it means none: never a failure, since no memory
+-- a value that the element means, or an error if it means none: never a failure, since no memory
 -- is taken
 abbrev pub Converts : {V : Type 0} → (BerElement → V → Type 0) → BerElement → Result V (Refusal Error) → Type 0
 Converts means e r = ReadsOf (λ given error. error ≡ given) ⊥ means e r

@@ -64,7 +64,7 @@ pub no_octets : (octets : List ℕ) → length octets ≡ 0 → octets ≡ []
 no_octets [] e = refl
 no_octets (x ∷ xs) e = absurd (omega arith)
 
--- an error that isn't want of memory says that no text has the octets
+-- an error that isn't `OutOfMemory` says that no text has the octets
 pub refused : (f : ℕ → List ℕ) (octets bytes : List ℕ) (e : Error) → (e ≡ errors.OutOfMemory) ⊎ ((e ≡ errors.StringInvalidCharset) × (IsWideText f octets → ⊥)) →
     e ≢ errors.OutOfMemory → IsUtf8 bytes → wide_octets f bytes ≡ octets → ⊥
 refused f octets bytes e (inl memory) other utf8 is = other memory

@@ -46,7 +46,7 @@ text_found tests content text e = by (tests content) refl
     by true test = let same = rw test at e in (cc, test)
     by false test = let never = rw test at e in cc
 
--- the text of a content, where it is text of the type
+-- the text of a content, if it is text of the type
 pub text_is : (tests : List ℕ → Bool) (is_text : List ℕ → Type 0) → Tells tests is_text → (content text : List ℕ) → (text_at tests content ≡ Ok text) ↔ ((text ≡ content) × is_text content)
 text_is tests is_text tells content text = (
   λ e. let found = text_found tests content text e in (found.0, (tells content).0 found.1),

@@ -131,7 +131,7 @@ impl<F: WideForm> WideString<F> {
     }
 }
 
-// The text whose octets these are. `StringInvalidCharset` where there is none; `OutOfMemory` where
+// The text whose octets these are. `StringInvalidCharset` if there is none; `OutOfMemory` if
 // memory ran out.
 fn read_text<F: WideForm>(alloc: Global, octets: &[u8]) -> Result<String, Error>
     ensures { ReadsWide F.char_octets string_bytes octets.now result }
@@ -150,7 +150,7 @@ fn read_text<F: WideForm>(alloc: Global, octets: &[u8]) -> Result<String, Error>
     Ok(text)
 }
 
-// How many octets the text has. `InvalidLength` where `usize` can't count them.
+// How many octets the text has. `InvalidLength` if `usize` can't count them.
 fn text_len<F: WideForm>(text: &str) -> SerializeResult<usize>
     ensures { Measures (wide_octets F.char_octets text.now) result }
 {

@@ -1,4 +1,4 @@
--- Elements tell the tag number of their header, and an optional value is read as the value is.
+-- Elements have the tag number of their header, and an optional value is read as the value is.
 use Rattle.std.proofs.Common.{◌≡◌, ◌↔◌, ◌-◌, ◌∙◌, refl, ap, subst, ℕ, Option, Some, None, List, ◌++◌, append_assoc}
 use Rattle.asn1_core.specs.Elements.{Element, head_of_element}
 use Rattle.asn1_any.specs.DerElements.{BeginsWithElement}
@@ -35,7 +35,7 @@ opt_as : {V : Type 0} (Begins : List ℕ → ℕ → Type 0) (tag : ℕ) (reads 
 opt_as Begins tag reads h octets (Some v) rest = ((λ p. p.1), (λ p. (h octets v rest p, p)))
 opt_as Begins tag reads h octets None rest = ((λ p. p), (λ p. p))
 
--- where each element that means a value has the tag number
+-- if each element that means a value has the tag number
 pub der_opt_as : {V : Type 0} (tag : ℕ) (means : BerElement → V → Type 0) → ((e : BerElement) (v : V) → means e v → e.head.tag ≡ tag) →
     (octets : List ℕ) (v : Option V) (rest : List ℕ) → OptionReads BeginsWithTag tag (ReadsElement means) octets v rest ↔ OptTaggedReads BeginsWithTag tag (ReadsElement means) octets v rest
 der_opt_as tag means has = opt_as BeginsWithTag tag (ReadsElement means) (λ octets v rest p.

@@ -1,4 +1,4 @@
--- Where a parser hands nothing to its closure, and refuses.
+-- When a parser hands nothing to its closure, and refuses.
 use Rattle.std.proofs.Common.{◌≡◌, ◌≢◌, ◌-◌, ◌∙◌, inl, refl, sym, ap, subst, ℕ, List, []}
 use Rattle.asn1_core.specs.Answers.{TakesNoMemory}
 use Rattle.asn1_core.specs.Conversions.{RefusesWith, RefusesFor, Converts}
@@ -43,7 +43,7 @@ refused_with gives Lacks x (refusals.Incomplete n) ne h whole = absurd h
 refused_with gives Lacks x (refusals.Error e) ne h whole = (inl (x, ne, h), whole)
 refused_with gives Lacks x (refusals.Failure e) ne h whole = absurd h
 
--- an error that isn't want of memory, converted, where no octet is missing
+-- an error that isn't `OutOfMemory`, converted, if no octet is missing
 pub refused_from : {E : Type 0} (gives : Error → E → Type 0) (Lacks : Needed → Type 0) (x : Error) (r : Refusal E) → x ≢ errors.OutOfMemory → RefusesFor gives x r → ((n : Needed) → Lacks n → ⊥) → IsRefusal gives Lacks r
 refused_from gives Lacks errors.OutOfMemory r ne h whole = absurd (ne refl)
 refused_from gives Lacks x r ne h whole = refused_with gives Lacks x r ne h whole
@@ -77,6 +77,6 @@ ber_unfit octets rest class tag e some begins p q =
 pub none_unfit : (Begins : Element → List ℕ → Type 0) (octets : List ℕ) (class tag : ℕ) → octets ≢ [] → ((f : Element) (s : List ℕ) → Begins f s → ⊥) → IsUnfit Begins class tag octets
 none_unfit Begins octets class tag some none = record { some = some; only = λ f s b. absurd (none f s b) }
 
--- the octets that a refusal tells as missing
+-- the octets that a refusal reports as missing
 pub told_missing : (Has : List ℕ → Type 0) (octets : List ℕ) (given : Refusal Error) (n : Needed) → given ≡ refusals.Incomplete n → IsMissing Has octets given → IsMissing Has octets (refusals.Incomplete n)
 told_missing Has octets given n is missing = let P : Refusal Error → Type 0 = λ z. IsMissing Has octets z in subst P is missing

@@ -113,7 +113,7 @@ impl<T, E, Kind, const CLASS: u8, const TAG: u32> Tagged for TaggedValue<T, E, K
 
     ghost tag_number = { TAG };
 
-    // (universal where `CLASS` is no class, of which there is no element)
+    // (universal if `CLASS` is no class, of which there is no element)
     fn own_class() -> Class {
         match Class::try_from(CLASS) {
             Ok(class) => class,

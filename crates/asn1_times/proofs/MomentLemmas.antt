@@ -49,7 +49,7 @@ moment_shifted year t local h m (Err e) clock fields zone g = (
   λ r p. g.1 (subst IsClockZone zone p.zone) (subst IsCivilNanos (p.moment ∙ same_nanos year t local h m fields zone) (civil_nanos_range r)),
 )
 
--- the function of the moment gives the same
+-- the result is what the function of the moment gives
 pub exact_shifted : (year : ℕ) (t : ASN1DateTime) (local : DateTime) (h m : ℤ) (res : Result DateTime Error) → HasClock year t → HasSameFields year t local →
     t.tz ≡ zones.Offset h m → GivesShifted (IsClockOffset h m) (civil_nanos local -ℤ offset_minutes h m *ℤ pos 60_000_000_000) res → GivesNanos res (moment_at year t)
 exact_shifted year t local h m (Ok r) clock fields zone g = (moment_is year t r).1 (moment_shifted year t local h m (Ok r) clock fields zone g)

@@ -23,7 +23,7 @@ abbrev pub fraction_octets : Option ℕ → List ℕ
 fraction_octets None = []
 fraction_octets (Some n) = 46 ∷ thousandths_octets n
 
--- minus where the hours or the minutes are negative, else plus
+-- minus if the hours or the minutes are negative, else plus
 abbrev pub sign_octet : ℤ → ℤ → ℕ
 sign_octet (negsuc h) m = 45
 sign_octet (pos h) (negsuc m) = 45
@@ -39,7 +39,7 @@ zone_octets (zones.Offset h m) = sign_octet h m ∷ two_digits (unsigned_abs h) 
 abbrev pub time_octets : List ℕ → ASN1DateTime → List ℕ
 time_octets year t = year ++ minute_octets t ++ two_digits t.second ++ fraction_octets t.millisecond ++ zone_octets t.tz
 
--- seconds and their fraction, or nothing where they are 0 and it isn't there
+-- seconds and their fraction, or nothing if they are 0 and it isn't there
 abbrev pub SpellsSeconds : List ℕ → ℕ → Option ℕ → Type 0
 SpellsSeconds s second fraction = (s ≡ two_digits second ++ fraction_octets fraction) ⊎ ((s ≡ []) × (second ≡ 0) × (fraction ≡ None))
 
@@ -55,7 +55,7 @@ pub record SpellsTime (year content : List ℕ) (t : ASN1DateTime) : Type 0 wher
   pub zone_spelled : SpellsZone zone t.tz
   pub octets : content ≡ year ++ minute_octets t ++ seconds ++ zone
 
--- hours to 23 and minutes to 59; minutes are negative only where the hours are 0
+-- hours to 23 and minutes to 59; minutes are negative only if the hours are 0
 abbrev pub IsOffset : ℤ → ℤ → Type 0
 IsOffset h m = (unsigned_abs h < 24) × (unsigned_abs m < 60) × ((pos 0 ≤ℤ m) ⊎ (h ≡ pos 0))
 

@@ -9,7 +9,7 @@ use Rattle.asn1_times.specs.declared.datetime.ASN1DateTime.{ASN1DateTime}
 use Rattle.asn1_times.specs.declared.datetime.ASN1TimeZone.{ASN1TimeZone}
 use Rattle.asn1_times.specs.declared.datetime.ASN1TimeZone.TheVariants as zones
 
--- minutes that a clock is ahead of universal time; the hours have the sign, or the minutes where
+-- minutes that a clock is ahead of universal time; the hours have the sign, or the minutes if
 -- the hours are 0
 abbrev pub offset_minutes : ℤ → ℤ → ℤ
 offset_minutes (pos zero) m = m

@@ -295,7 +295,7 @@ moment_there year t clock zone =
     let second = (clock_zone_told t.tz).1 zone in
     rw (first, second) refl
 
--- there is no moment where the clock, the offset or the calendar lacks it
+-- there is no moment if the clock, the offset or the calendar lacks it
 pub moment_none : (year : ℕ) (t : ASN1DateTime) → (HasClock year t → IsClockZone t.tz → IsCivilNanos (universal_nanos year t) → ⊥) → moment_at year t ≡ None
 unfolding moment_at
 moment_none year t never = by (has_clock year t && is_clock_zone t.tz) refl

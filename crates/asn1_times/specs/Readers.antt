@@ -18,7 +18,7 @@ use Rattle.asn1_times.specs.declared.datetime.ASN1TimeZone.TheVariants as zones
 abbrev pub is_clock_offset : ℤ → ℤ → Bool
 is_clock_offset h m = nat_lt (unsigned_abs h) 24 && nat_lt (unsigned_abs m) 60
 
--- the minutes are negative only where the hours are 0
+-- the minutes are negative only if the hours are 0
 abbrev pub has_one_sign : ℤ → ℤ → Bool
 has_one_sign h (pos m) = true
 has_one_sign h (negsuc m) = unsigned_abs h == 0
@@ -80,7 +80,7 @@ der_check content =
 abbrev pub der_generalized_time_at : List ℕ → Option ASN1DateTime
 der_generalized_time_at content = if is_ok (der_check content) then generalized_time_at content else None
 
--- the time that is read, or InvalidValue of the tag number where none is
+-- the time that is read, or InvalidValue of the tag number if none is
 abbrev pub GivesTime : {V : Type 0} → (V → ASN1DateTime) → ℕ → Result V Error → Option ASN1DateTime → Type 0
 GivesTime time_of tag (Ok v) read = read ≡ Some (time_of v)
 GivesTime time_of tag (Err e) read = (read ≡ None) × IsInvalidValue tag e
@@ -122,7 +122,7 @@ civil_only n = if is_civil_nanos n then Some n else None
 unfoldable pub moment_at : ℕ → ASN1DateTime → Option ℤ
 moment_at year t = if has_clock year t && is_clock_zone t.tz then civil_only (universal_nanos year t) else None
 
--- the date and time of the moment, or InvalidDateTime where there is none
+-- the date and time of the moment, or InvalidDateTime if there is none
 abbrev pub GivesNanos : Result DateTime Error → Option ℤ → Type 0
 GivesNanos (Ok r) read = read ≡ Some (civil_nanos r)
 GivesNanos (Err e) read = (read ≡ None) × (e ≡ errors.InvalidDateTime)

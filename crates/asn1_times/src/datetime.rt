@@ -38,7 +38,7 @@ impl ASN1TimeZone {
     }
 }
 
-// Hours to 23 and minutes to 59, which are negative only where the hours are 0.
+// Hours to 23 and minutes to 59, which are negative only if the hours are 0.
 fn is_offset(hour: i8, minute: i8) -> bool
     ensures { IsTrue result ↔ IsOffset hour minute }
 {

@@ -94,7 +94,7 @@ fn moment_in(year: u32, time: &ASN1DateTime) -> Result<DateTime, Error>
     }
 }
 
-// The date and time in this year on the zone's clock, where the calendar and a clock have them.
+// The date and time in this year on the zone's clock, if the calendar and a clock have them.
 fn local_in(year: u32, time: &ASN1DateTime) -> Option<DateTime>
     ensures some { IsSome result ↔ HasClock year time.now }
     ensures fields { IfSome result (HasSameFields year time.now) }

@@ -36,7 +36,7 @@ still_some : (octets more : List ℕ) → octets ≢ [] → octets ++ more ≢ [
 still_some [] more some = λ e. some refl
 still_some (x ∷ octets) more some = λ e. cc
 
--- octets are missing of a value that stands behind a header of the wanted tag number
+-- octets are missing of a value that comes after a header of the wanted tag number
 lacks_present : {V : Type 0} (Begins : List ℕ → ℕ → Type 0) (tag : ℕ) (reads : List ℕ → V → List ℕ → Type 0) (octets : List ℕ) (n : Needed) → AreHeaders Begins →
     Begins octets tag → Lacks reads octets n → Lacks (OptionReads Begins tag reads) octets n
 lacks_present Begins tag reads octets needed.Unknown h p lacks = absurd lacks

@@ -63,6 +63,6 @@ unfolding integer_octets
 whole_length true size z e = sym (length-map (with_sign_bit (digits_of 256 size)) (λ octet. 255 - octet)) ∙ ap (λ x. length (integer_octets x)) e
 whole_length false size z e = ap (λ x. length (integer_octets x)) e
 
--- room for one more octet behind digits
+-- room for one more octet after digits
 pub room_after : (old new ds : List ℕ) → new ≡ old ++ ds → length old + (length ds + 1) ≤ 20 → length new < 20
 room_after old new ds e room = omega (arith, ap length e, length-append old ds, room)

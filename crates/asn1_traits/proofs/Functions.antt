@@ -44,7 +44,7 @@ pub from_exact : {V : Type 0} (number : V → ℤ) (fits : ℤ → Bool) (InRang
 from_exact number fits InRange content z (Ok v) t s f = number_at fits InRange content z t s f.1 ∙ ap (λ (k : ℤ). Some k) (sym f.0)
 from_exact number fits InRange content z (Err e) t s f = none_at fits InRange content t (λ h. f.1 (subst InRange s.value h))
 
--- no octet that tells nothing
+-- no octet that is redundant
 short_by : (a b c : Bool) → IsTrue (not (a && b) && not (c && not b)) ↔ (((a ≡ true) × (b ≡ true) → ⊥) × ((c ≡ true) × (b ≡ false) → ⊥))
 short_by true true c = ((λ h. cc), (λ h. absurd (h.0 (refl, refl))))
 short_by true false true = ((λ h. cc), (λ h. absurd (h.1 (refl, refl))))

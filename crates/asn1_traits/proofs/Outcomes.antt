@@ -11,13 +11,13 @@ use Rattle.asn1_core.specs.declared.outcome.Err.{Err as Refusal}
 use Rattle.asn1_core.specs.declared.outcome.Err.TheVariants as refusals
 use Rattle.asn1_traits.specs.Reads.{IsNoMemory, Refuses, RefusesAt, NoneReads, Lacks}
 
--- want of memory is a failure, every other error a refusal
+-- lack of memory is a failure, every other error a refusal
 memory_or : {E : Type 0} (gives : Error → E → Type 0) (x : Error) (r : Refusal E) → RefusesFor gives x r →
     ((x ≡ errors.OutOfMemory) × FailsForMemory gives r) ⊎ ((x ≢ errors.OutOfMemory) × RefusesWith gives x r)
 memory_or gives errors.OutOfMemory r h = inl (refl, h)
 memory_or gives x r h = inr ((λ e. cc), h)
 
--- an error that isn't want of memory, converted, isn't either
+-- an error that isn't `OutOfMemory`, converted, isn't either
 not_memory : {E : Type 0} (gives : Error → E → Type 0) (x : Error) (r : Refusal E) (P : Refusal E → Type 0) → x ≢ errors.OutOfMemory → RefusesWith gives x r →
     ((e : E) → IsNoMemory gives e → P (refusals.Error e)) → P r
 not_memory gives x (refusals.Incomplete n) P ne h f = absurd h

@@ -16,7 +16,7 @@ use Rattle.asn1_traits.specs.LeafLaws.{short_element}
 use Rattle.asn1_traits.specs.ListLaws.{OneEach, BackEach, SameEach, OneRest}
 use Rattle.asn1_traits.specs.Rounds.{BackOr, SameOption, RestFits}
 
--- where there is a value, the reader answers one, or memory ran out
+-- if there is a value, the reader returns one, or memory ran out
 pub answered : {V E I : Type 0} (gives : Error → E → Type 0) (grows : Type 0) (Cut : List ℕ → Needed → Type 0) (at : I → List ℕ) (reads : List ℕ → V → List ℕ → Type 0) (octets : List ℕ) (r : Result (I × V) (Refusal E)) (P : V → List ℕ → Type 0) (w : V) (rest : List ℕ) →
     reads octets w rest → ((v : V) (s : List ℕ) → reads octets v s → P v s) → Reads gives grows Cut at reads octets r → BackOr gives at P r
 answered gives grows Cut at reads octets (Ok x) P w rest read f h = f x.1 (at x.0) h
@@ -36,7 +36,7 @@ element_back gives grows Cut at formed element reads back same once octets r h v
     let read_it = subst Again e read in
     (same v w rest s form short read_it, once (written (element v) ++ rest) w found.0 s rest read_it found.1)) h
 
--- an element's header tells its tag number
+-- an element's header gives its tag number
 tagged : (o : Option Element) (tag : ℕ) (rest : List ℕ) → IsOneElement o → HasTag tag o → (IsLong (written o) → ⊥) → BeginsWithTag (written o ++ rest) tag
 tagged None tag rest one has short = absurd one
 tagged (Some e) tag rest one has short =

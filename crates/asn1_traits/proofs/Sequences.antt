@@ -10,7 +10,7 @@ use Rattle.asn1_traits.specs.Writes.{Writes, Stops, IsLong, written}
 use Rattle.asn1_traits.specs.Lists.{AllRead, all_written, EachIs, OneIs}
 use Rattle.asn1_traits.proofs.Writing.{appends_two, appends_none, front_first, front_second, front_all, stops_from, stops_too}
 
--- how far the values of the octets are read: `rest` is left behind `items`
+-- how far the values of the octets are read: `rest` is left after `items`
 pub record HasRead {V : Type 0} (reads : List ℕ → V → List ℕ → Type 0) (octets rest : List ℕ) (items : List V) : Type 0 where
   pub kept : (vs : List V) → AllRead reads rest vs → AllRead reads octets (items ++ vs)
   pub only : (vs : List V) → AllRead reads octets vs → (ws : List V) × AllRead reads rest ws
@@ -45,12 +45,12 @@ first_none : {V : Type 0} (reads : List ℕ → V → List ℕ → Type 0) (rest
 first_none reads rest [] some none all = some all
 first_none reads rest (v ∷ vs) some none all = none v all.0 all.1
 
--- no values, where none begins what is left
+-- no values, if none begins what is left
 pub none_left : {V : Type 0} (reads : List ℕ → V → List ℕ → Type 0) (octets rest : List ℕ) (items : List V) → HasRead reads octets rest items → rest ≢ [] →
     ((v : V) (s : List ℕ) → reads rest v s → ⊥) → (vs : List V) → AllRead reads octets vs → ⊥
 none_left reads octets rest items has some none vs h = let left = has.only vs h in first_none reads rest left.0 some none left.1
 
--- no values, where one takes no octet
+-- no values, if one takes no octet
 pub none_short : {V : Type 0} (reads : List ℕ → V → List ℕ → Type 0) → ((octets : List ℕ) (v w : V) (r s : List ℕ) → reads octets v r → reads octets w s → r ≡ s) →
     (octets rest after : List ℕ) (items : List V) (v : V) → HasRead reads octets rest items → reads rest v after → rest ≢ [] → length rest ≤ length after → (vs : List V) → AllRead reads octets vs → ⊥
 none_short reads once octets rest after items v has read some long vs h = let left = has.only vs h in omega (arith, long, (behind_first reads once rest after v left.0 read some left.1).0)

@@ -12,11 +12,11 @@ is_unsigned bits (negsuc n) = false
 abbrev pub is_signed : ℕ → ℤ → Bool
 is_signed bits z = nat_lt (size_of z) (2 ^ (bits - 1))
 
--- the number, where it fits
+-- the number, if it fits
 abbrev pub fitting : (ℤ → Bool) → ℤ → Option ℤ
 fitting fits z = if fits z then Some z else None
 
--- the number of a content, where there is one and it fits
+-- the number of a content, if there is one and it fits
 abbrev pub integer_at : (ℤ → Bool) → List ℕ → Option ℤ
 integer_at fits [] = None
 integer_at fits (octet ∷ octets) = fitting fits (twos_complement (octet ∷ octets))

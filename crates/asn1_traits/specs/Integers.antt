@@ -8,11 +8,11 @@ use Rattle.std.specs.Int.Digits.{number_from_digits, digits_of}
 abbrev pub turned : List ℕ → List ℕ
 turned octets = map (λ octet. 255 - octet) octets
 
--- the octets, or turned where the number is negative
+-- the octets, or turned if the number is negative
 abbrev pub unsigned_octets : Bool → List ℕ → List ℕ
 unsigned_octets negative octets = if negative then turned octets else octets
 
--- the first bit is the sign (X.690, 8.3.3): where it is set the number is -1 less that of the
+-- the first bit is the sign (X.690, 8.3.3): if it is set the number is -1 less that of the
 -- turned bits
 unfoldable pub twos_complement : List ℕ → ℤ
 twos_complement [] = pos 0

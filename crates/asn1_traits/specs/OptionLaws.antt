@@ -6,7 +6,7 @@ use Rattle.asn1_core.proofs.LenientLaws.{one_lenient_header_lem, one_ber_header_
 use Rattle.asn1_core.proofs.Long.{header_long}
 use Rattle.asn1_traits.specs.Options.{BeginsWithTag, BeginsWithBerTag, IsAbsent, OptionReads}
 
--- headers that begin octets: one at most, and none where there are no octets
+-- headers that begin octets: one at most, and none if there are no octets
 pub record AreHeaders (Begins : List ℕ → ℕ → Type 0) : Type 0 where
   pub once : (octets : List ℕ) (m n : ℕ) → Begins octets m → Begins octets n → m ≡ n
   pub some : (n : ℕ) → Begins [] n → ⊥

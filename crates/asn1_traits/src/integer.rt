@@ -139,7 +139,7 @@ fn read_whole(octets: &[u8]) -> Result<Whole, Error>
     }
 }
 
-// The number that the octets make, each of them turned where it is negative; none past 128 bits.
+// The number that the octets make, each of them turned if it is negative; none past 128 bits.
 fn read_size(octets: &[u8], negative: bool) -> Option<u128>
     ensures { SomeIff result (number_from_digits 256 (unsigned_octets negative octets.now) < 2 ^ 128) (number_from_digits 256 (unsigned_octets negative octets.now)) }
 {
@@ -154,7 +154,7 @@ fn read_size(octets: &[u8], negative: bool) -> Option<u128>
     Some(number)
 }
 
-// The octet, or turned where the number is negative.
+// The octet, or turned if the number is negative.
 fn unsigned_octet(negative: bool, octet: u8) -> u8
     ensures { result ≡ (if negative then 255 - octet else octet) }
 {

@@ -32,7 +32,7 @@ pub shorter_is_less : (xs ys : List ℕ) → length xs < length ys → AllBelowB
 shorter_is_less xs [] long below first = absurd (omega (arith, long))
 shorter_is_less xs (y ∷ ys) long below first = less_longer (0 * 256 + y) xs ys (omega (arith, first)) (omega (arith, long)) below
 
--- the first digits decide, unless they are the same
+-- the first digits decide, unless they are equal
 compared_by : (n x y : ℕ) (xs ys : List ℕ) (o : Ordering) → MatchOrdering o (x < y) (x ≡ y) (y < x) → length xs ≡ length ys
     → AllBelowBase 256 (x ∷ xs) → AllBelowBase 256 (y ∷ ys)
     → ((m : ℕ) → slice_cmp nat_cmp xs ys ≡ nat_cmp (number_from_digits_after 256 m xs) (number_from_digits_after 256 m ys))
@@ -69,7 +69,7 @@ first_of_digits (suc n) = first_of (digits_of 256 (suc n)) (first_digits_of 256 
     first_of [] some = tt
     first_of (d ∷ ds) some = some
 
--- as many octets of one number are the same
+-- as many octets of one number are equal
 same_digits : (xs ys : List ℕ) → length xs ≡ length ys → AllBelowBase 256 xs → AllBelowBase 256 ys
     → number_from_digits 256 xs ≡ number_from_digits 256 ys → xs ≡ ys
 same_digits xs ys long below below' e =

@@ -9,7 +9,7 @@ use Rattle.asn1_values.specs.declared.bitstring.BitString.{BitString}
 abbrev pub bit_at : List ℕ → ℕ → Bool
 bit_at octets bit = slice_index octets (bit / 8) / 2 ^ (7 - bit % 8) % 2 == 1
 
--- at most 7 bits are unused, and none where there is no octet (X.690, 8.6.2.2 and 8.6.2.3)
+-- at most 7 bits are unused, and none if there is no octet (X.690, 8.6.2.2 and 8.6.2.3)
 pub record AreBits (unused : ℕ) (octets : List ℕ) : Type 0 where
   pub few : unused < 8
   pub none : octets ≡ [] → unused ≡ 0
@@ -35,7 +35,7 @@ pub record IsStrictBitContent (content : List ℕ) : Type 0 where
   pub whole : content ≡ unused ∷ octets
   pub strict : AreStrictBits unused octets
 
--- the bits of the content, or an error where it has none
+-- the bits of the content, or an error if it has none
 abbrev pub ReadsBits : List ℕ → Result BitString Error → Type 0
 ReadsBits content (Ok v) = BitsMean content v.unused_bits v.content.now
 ReadsBits content (Err e) = (e ≢ errors.OutOfMemory) × ((unused : ℕ) (octets : List ℕ) → BitsMean content unused octets → ⊥)

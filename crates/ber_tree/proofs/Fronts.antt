@@ -38,7 +38,7 @@ pub read_only : (k : ℕ) (i r : List ℕ) (t : Tree) (result : Result (Bor (Lis
 read_only k i r t (Ok p) found none is split = one_tree_lem k k (view p.1) t p.0.now r found.0 is (sym found.1 ∙ split)
 read_only k i r t (Err e) found none is split = only_memory e (BeginsWithBerTree k i) none (t, r, is, split)
 
--- where end-of-contents octets don't begin the octets, or there is no level for them
+-- if end-of-contents octets don't begin the octets, or there is no level for them
 pub none_begins : (k : ℕ) (i : List ℕ) (e : Refusal Error) → Refuses e (BeginsWithBerObject k i → ⊥) → (0 < k → (r : List ℕ) → i ≡ octets end_tree ++ r → ⊥) → Refuses e (BeginsWithBerTree k i → ⊥)
 none_begins k i e none no_end =
     weaker e _ _ (λ f (p : BeginsWithBerTree k i). elim p.2 [

@@ -1,4 +1,4 @@
--- What stands under a header, line by line.
+-- What is under a header, line by line.
 use Rattle.std.proofs.Common.{◌≡◌, ◌∙◌, sym, ap, refl, subst, ℕ, inl, inr, true, false, arith}
 use Rattle.asn1_core.specs.Elements.{Element}
 use Rattle.der_tree.specs.Table.{Kind, tag_of, IsPrimitive, IsConstructed, is_listed}
@@ -32,7 +32,7 @@ wider_plain e (enumerated n) p = plain_by e 10 refl (λ z. omega arith) p.0
 wider_plain e (plain k s) p = plain_by e (tag_of k) (kind_listed k) (kind_some k) p.0
 wider_plain e (raw f) p = absurd p
 
--- what stands under a constructed header is no leaf, unless it is raw
+-- what is under a constructed header is no leaf, unless it is raw
 pub no_ber_leaf : (n : ℕ) (e : Element) (v : Leaf) → is_listed n ≡ true → IsConstructed e n → HoldsBer e v → ⊥
 no_ber_leaf n e v l p (inl q) = no_leaf n e v l p q
 no_ber_leaf n e v l p (inr q) = let x = (wider_plain e v q).constructed in let y = p.constructed in cc

@@ -38,7 +38,7 @@ ended_by k s e (set ts) p = tt
 pub cut_by : (k : ℕ) (s : List ℕ) (e : BerElement) → SpellsBer (IsWithin k) s e → IfSome e.head.size (λ n. n ≤ 4_294_967_295) → IsBerCut s e
 cut_by k s e p small = record { header = p.header; body = p.body; in_range = p.in_range; small = small; spells = p.spells; ends = ends_by k e.head.size e.content p.body p.closes; octets = p.whole }
 
--- where an element begins the octets, what an object there is
+-- if an element begins the octets, what an object there is
 pub object_there : (k : ℕ) (i r : List ℕ) (e : BerElement) → BeginsWithBerElement (k - 1) i e r → BeginsWithBerObject k i →
     IfSome e.head.size (λ n. n ≤ 4_294_967_295) × ((c : Content) × IsBerContent (k - 1) (element_of_ber e) c)
 object_there k i r e begins p =

@@ -1,4 +1,4 @@
--- What is a DER object is a BER object, with the same tree.
+-- What is a DER object is a BER object, with one tree.
 use Rattle.std.proofs.Common.{◌∙◌, refl, inl, ℕ, ◌-◌, List}
 use Rattle.asn1_core.specs.Elements.{Element}
 use Rattle.asn1_any.specs.BerElements.{definite_element}

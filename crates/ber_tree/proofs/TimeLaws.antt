@@ -28,7 +28,7 @@ not_true : (b : Bool) → not b ≡ true → b ≡ false
 not_true true p = cc
 not_true false p = refl
 
--- a number in a range, and what comes behind it
+-- a number in a range, and what comes after it
 record Ranged (least most : ℕ) (i r : List ℕ) : Type 0 where
   number : ℕ
   low : least ≤ number

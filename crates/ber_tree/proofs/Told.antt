@@ -27,7 +27,7 @@ form_again : (l : Length) → l ≡ form_of (definite_size l)
 form_again (Definite n) = refl
 form_again Indefinite = refl
 
--- a header that was read tells the length at the front of its element's octets
+-- a header that was read gives the length at the front of its element's octets
 pub read_told : (h : Header) (k : ℕ) (i after raw : List ℕ) (e : BerElement) → BeginsWithBerElement k i e after → e.head ≡ ber_head_of h → raw ≡ take (length i - length after) i → length_of h ≡ read_form (ber_header_at raw)
 read_told h k i after raw e begins head front =
     let spells = begins.spells in

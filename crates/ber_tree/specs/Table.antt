@@ -15,7 +15,7 @@ pub record IsWideEnumerated (s : List ℕ) : Type 0 where
   pub sign : is_negative s ≡ false
   pub size : number_from_digits 256 s < 2 ^ 64
 
--- how many bits are unused, 0 to 7, and 0 where no octet follows; then bits of any value
+-- how many bits are unused, 0 to 7, and 0 if no octet follows; then bits of any value
 -- (X.690, 8.6.2)
 abbrev pub is_wide_bit_string : List ℕ → Bool
 is_wide_bit_string [] = false
@@ -29,7 +29,7 @@ AllowsWider utc_time s = IsBerUtcTime s
 AllowsWider generalized_time s = IsBerGeneralizedTime s
 AllowsWider _ s = ⊥
 
--- the wider forms, with the value that the content holds; a boolean is false where its one octet is
+-- the wider forms, with the value that the content holds; a boolean is false if its one octet is
 -- 0 (X.690, 8.2)
 abbrev pub HoldsWider : Element → Leaf → Type 0
 HoldsWider e (boolean b) = IsPrimitive e 1 × ((a : ℕ) × (e.content ≡ a ∷ []) × (b ≡ not (a == 0)))

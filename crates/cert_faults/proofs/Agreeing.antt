@@ -1,4 +1,5 @@
--- A walk that names faults has none exactly where a read of `cert_model` has a value: steps and sequences of steps.
+-- A walk that names faults has none exactly if a read of `cert_model` has a value: steps and
+-- sequences of steps.
 use Rattle.std.proofs.Common.{◌≡◌, refl, ℕ, Option, Some, None, Ok, Err, option_and_then}
 use Rattle.der_tree.specs.Tree.{Tree, Trees, none, more}
 use Rattle.der_tree.specs.Access.{first_at, end_at}
@@ -8,7 +9,7 @@ use Rattle.cert_faults.specs.declared.steps.Place.{Place}
 use Rattle.cert_faults.specs.declared.steps.Blame.{Blame}
 use Rattle.cert_faults.specs.Steps.{Outcome, ◌>>=◌, left_after, Rest, check, parts_or, first_in, end_in, next_or, each_in}
 
--- a step has no fault exactly where a value is read
+-- a step has no fault exactly if a value is read
 abbrev pub Agrees : {A C : Type 0} → Outcome A → Option C → Type 0
 Agrees (Ok x) (Some a) = Unit {0}
 Agrees (Ok x) None = ⊥

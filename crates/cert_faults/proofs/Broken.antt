@@ -46,7 +46,7 @@ holder_content k e ts h p is =
     let m = holder_by e e.constructed (e.class == 0) (e.tag == 16) (e.tag == 17) refl refl refl refl h in
     elim m.2 [ inl x ↦ (sequence ts, (subst (IsConstructed e) x m.1, is, p)) | inr y ↦ (set ts, (subst (IsConstructed e) y m.1, is, p)) ]
 
--- where no object begins octets, an element there that holds parts has one that isn't an object
+-- if no object begins octets, an element there that holds parts has one that isn't an object
 pub part_left : (k : ℕ) (s front rest others : List ℕ) (e : Element) (ts : Trees) → 0 < k → (BeginsWithObject k s → ⊥) → IsCut front e → s ≡ front ++ rest → is_holder e ≡ true → AreObjects (k - 1) ts →
     e.content ≡ all_octets ts ++ others → others ≢ []
 part_left k s front rest others e ts lt begun cut is h p content = λ none_left.

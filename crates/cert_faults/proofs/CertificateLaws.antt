@@ -1,4 +1,4 @@
--- An object has no fault as a certificate exactly where it is one.
+-- An object has no fault as a certificate exactly if it is one.
 use Rattle.std.proofs.Common.{◌≡◌, ◌∙◌, refl, sym, ap, ℕ, ◌==◌, ◌&&◌, nat_lt, true, Option, Some, None, Ok, option_and_then, subst}
 use Rattle.std.proofs.lemmas.Option.{option_and_then_some}
 use Rattle.der_tree.specs.Tree.{Tree, Trees, octets}

@@ -107,7 +107,7 @@ pub stops_weaker : (e : Stop) (F G : Blame → Type 0) → ((b : Blame) → F b 
 stops_weaker (stops.Fault b) F G h p = h b p
 stops_weaker stops.OutOfMemory F G h p = p
 
--- a refusal that is not for want of memory
+-- a refusal that is not for lack of memory
 pub refused_plainly : (e : Refusal Error) (P : Type 0) → ((x : Error) → e ≡ refusals.Failure x → ⊥) → Refuses e P → P
 refused_plainly (refusals.Incomplete n) P plain p = p
 refused_plainly (refusals.Error x) P plain p = p.0

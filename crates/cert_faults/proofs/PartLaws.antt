@@ -1,4 +1,4 @@
--- Each part of the grammar has no fault exactly where it is read.
+-- Each part of the grammar has no fault exactly if it is read.
 use Rattle.std.proofs.Common.{◌≡◌, refl, ap, ℕ, ◌&&◌, nat_lt, List, ◌∷◌, length, Bool, true, false, if◌then◌else◌, Option, Some, None, Ok, Err, option_and_then, arith, subst}
 use Rattle.std.proofs.lemmas.Bool.{lt-ltb}
 use Rattle.der_tree.specs.Table.{octet_string}

@@ -89,7 +89,7 @@ kept_faulted : (limit : ℕ) (rest kept : List ℕ) (fault : Bool) → fault ≡
 kept_faulted limit rest kept false is held = absurd cc
 kept_faulted limit rest kept true is held = held
 
--- a piece after which the octets behind the items begin an item
+-- a piece after which the octets after the items begin an item
 pub fed_part : (limit : ℕ) (octets piece ends ends' : List ℕ) (at at' : ℕ) (fault failed fault' failed' : Bool) (stream : List ℕ) → RunsTo 0 ends at
     → at ≤ length octets → fault ≡ false → fault' ≡ false → failed' ≡ false → Advances limit (octets ++ piece) at ends ends' at' true
     → StandsFor (record { limit = limit; items = pieces 0 ends octets; kept = drop at octets; has_fault = fault; has_failed = failed }) stream
@@ -159,7 +159,7 @@ fed_behind_fault held stream piece faulted stands =
           (kept.0, meets_is_no_cut held.limit (rest ++ piece) more);
     }
 
--- the octets of the items alone have the same items
+-- the octets of the items alone have all its items
 front_framing : (limit : ℕ) (octets ends : List ℕ) (at : ℕ) (stream rest : List ℕ) (end : End) → RunsTo 0 ends at → at ≤ length octets
     → IsLongest limit stream (pieces 0 ends octets) rest → EndsAs limit rest at end → IsFraming limit stream (pieces 0 ends (take at octets)) end
 front_framing limit octets ends at stream rest end runs within longest ends_as =

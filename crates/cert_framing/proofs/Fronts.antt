@@ -1,4 +1,4 @@
--- What stands at the front of octets that begin as a sequence does.
+-- What is at the front of octets that begin as a sequence does.
 use Rattle.std.proofs.Common.{◌≡◌, ◌≢◌, ℕ, suc, ◌+◌, ◌-◌, ◌^◌, ◌<◌, ◌≤◌, List, [], ◌∷◌, ◌++◌, length, get_or, take, drop, refl, subst, ◌⊎◌, sym, ◌∙◌, ap, append_assoc, length-append, length-drop, replicate, min, inl, inr, arith}
 use Rattle.std.proofs.lemmas.Bool.{cases_lt}
 use Rattle.std.proofs.lemmas.List.{append-nil, length-replicate, length-take-le, take-append-drop, take_all, take_at, take-take, drop-take, nil_from_length}
@@ -56,7 +56,7 @@ short_is_whole limit n rest short small whole =
 two_heads : (x y : ℕ) (a b : List ℕ) → x ∷ a ≡ y ∷ b → (x ≡ y) × (a ≡ b)
 two_heads x y a b e = (cc, cc)
 
--- the octets behind 30 are a length, a content and what follows
+-- the octets after 30 are a length, a content and what follows
 behind_first : (limit : ℕ) (octets more item after : List ℕ) (is : IsItem limit item) → (48 ∷ octets) ++ more ≡ item ++ after
     → octets ++ more ≡ strict_length (length is.content) ++ (is.content ++ after)
 behind_first limit octets more item after is e =
@@ -204,7 +204,7 @@ long_is_whole limit count n rest long small whole =
     long.large small (length-take-le n tail (omega arith)) in
     subst (λ (x : List ℕ). IsItem limit (48 ∷ (128 + count) ∷ x)) (taken_parts count n rest) item
 
--- the same, as the code meets them
+-- complete items, as the code meets them
 pub short_front_whole : (limit n : ℕ) (rest : List ℕ) → n < 128 → n ≤ limit → n ≤ length rest → IsItem limit (take (2 + n) (48 ∷ n ∷ rest))
 short_front_whole limit n rest short small whole =
     let two : 2 + n ≡ suc (suc n) = omega arith in

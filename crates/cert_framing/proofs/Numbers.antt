@@ -16,7 +16,7 @@ after_zeros b v (suc k) =
     let more : (v * b + 0) * b ^ k ≡ v * b ^ suc k = rw (pow-succ' b k) (omega (arith, mul_assoc v b (b ^ k))) in
     after_zeros b (v * b + 0) k ∙ more
 
--- digits behind a number make it at least as great as zeros do
+-- digits after a number make it at least as great as zeros do
 after_at_least : (b v : ℕ) (ds : List ℕ) → v * b ^ length ds ≤ number_from_digits_after b v ds
 after_at_least b v [] = rw pow-zero (omega (arith, mul-one v))
 after_at_least b v (d ∷ ds) =
@@ -32,7 +32,7 @@ below_append : (b : ℕ) (xs ys : List ℕ) → AllBelowBase b xs → AllBelowBa
 below_append b [] ys all all' = all'
 below_append b (x ∷ xs) ys all all' = (all.0, below_append b xs ys all.1 all')
 
--- digits of which the first isn't 0, with zeros behind them, are a long length
+-- digits of which the first isn't 0, with zeros after them, are a long length
 spelled_with_zeros : FewestDigits → (d : ℕ) (ds : List ℕ) (k : ℕ) → 0 < d → AllBelowBase 256 (d ∷ ds)
     → digits_of 256 (number_from_digits 256 (d ∷ ds) * 256 ^ k) ≡ d ∷ (ds ++ replicate k 0)
 spelled_with_zeros fewest d ds k pos below =
@@ -62,7 +62,7 @@ large_enough d (e ∷ ds) k pos high =
 value_of_long : (known : List ℕ) (count n : ℕ) (long : IsLongLength known count n) → n ≡ number_from_digits 256 (known ++ long.more)
 value_of_long known count n long = sym (number_digits_of 256 n (omega arith)) ∙ ap (number_from_digits 256) long.spelled
 
--- behind known octets of which the first isn't 0, zeros make the least length
+-- after known octets of which the first isn't 0, zeros make the least length
 pub least_behind : FewestDigits → (d : ℕ) (ds : List ℕ) (count k : ℕ) → 0 < d → AllBelowBase 256 (d ∷ ds) → length (d ∷ ds) + k ≡ count → (count ≡ 1 → 128 ≤ d)
     → IsLeastLength (d ∷ ds) count (Some (number_from_digits 256 (d ∷ ds) * 256 ^ k))
 least_behind fewest d ds count k pos below size high = (
@@ -94,7 +94,7 @@ where_none n large spelled =
     let none : 0 ≡ n = rw spelled at value in
     omega arith
 
--- and is no less than a 1 with zeros behind it
+-- and is no less than a 1 with zeros after it
 least_above : (count k n : ℕ) (more : List ℕ) → 128 ≤ n → digits_of 256 n ≡ more → length more ≡ count → k + 1 ≡ count → 1 * 256 ^ k ≤ n
 least_above count k n [] large spelled full size = absurd (where_none n large spelled)
 least_above count k n (d ∷ ds) large spelled full size =
@@ -137,7 +137,7 @@ none_from_small d n ds low long =
     let none : length (ds ++ long.more) ≡ 0 = omega (arith, long.full) in
     none_from_lone d n (ds ++ long.more) low long.large long.spelled none
 
--- the same over octets that are read by index
+-- octets that are below 256 at each index are all below 256
 pub below_from : (octets : List ℕ) → ((k : ℕ) → get_or octets k 0 < 256) → AllBelowBase 256 octets
 below_from [] all = tt
 below_from (x ∷ octets) all = (all 0, below_from octets (λ k. all (suc k)))
@@ -158,7 +158,7 @@ pub least_of_known : FewestDigits → (known : List ℕ) (count k : ℕ) → 0 <
 least_of_known fewest [] count k some first below size high = absurd (omega arith)
 least_of_known fewest (d ∷ ds) count k some first below size high = least_behind fewest d ds count k (omega arith) below size high
 
--- where none is known
+-- if none is known
 pub least_of_lone : (known : List ℕ) (count : ℕ) → length known < 1 → count ≡ 1 → IsLeastLength known count (Some 128)
 least_of_lone [] count none one = subst (λ (n : ℕ). IsLeastLength [] n (Some 128)) (sym one) least_of_one
 least_of_lone (d ∷ ds) count none one = absurd (omega arith)

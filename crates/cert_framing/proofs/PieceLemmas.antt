@@ -20,7 +20,7 @@ pieces_on from [] added at octets runs = ap (λ (n : ℕ). pieces n added octets
 pieces_on from (end ∷ ends) added at octets runs =
     ap (λ (rest : List (List ℕ)). take (end - from) (drop from octets) ∷ rest) (pieces_on end ends added at octets runs.1)
 
--- octets behind the last place change nothing
+-- octets after the last place change nothing
 pub pieces_of_more : (from : ℕ) (ends : List ℕ) (at : ℕ) (octets more : List ℕ) → RunsTo from ends at → at ≤ length octets
     → pieces from ends (octets ++ more) ≡ pieces from ends octets
 pieces_of_more from [] at octets more runs within = refl
@@ -40,7 +40,7 @@ pieces_of_front ends at octets runs within =
     let size : length (take at octets) ≡ at = length-take-le at octets within in
     sym (pieces_of_more 0 ends at (take at octets) (drop at octets) runs (omega arith)) ∙ ap (pieces 0 ends) (take-append-drop at octets)
 
--- the parts and what is behind the last place are all octets
+-- the parts and what comes after the last place are all octets
 pub pieces_joined : (from : ℕ) (ends : List ℕ) (at : ℕ) (octets : List ℕ) → RunsTo from ends at → at ≤ length octets
     → concat (pieces from ends octets) ++ drop at octets ≡ drop from octets
 pieces_joined from [] at octets runs within = ap (λ (n : ℕ). drop n octets) (sym runs)
@@ -87,7 +87,7 @@ part_is from [] octets k within = absurd (omega arith)
 part_is from (end ∷ ends) octets zero within = refl
 part_is from (end ∷ ends) octets (suc k) within = part_is end ends octets k (omega arith)
 
--- there is no part where there is no place
+-- there is no part if there is no place
 pub none_from_places : (b : Bool) (n : ℕ) (ends octets : List ℕ) → b ≡ eqb n 0 → n ≡ length ends
     → (IsTrue b → pieces 0 ends octets ≡ []) × (pieces 0 ends octets ≡ [] → IsTrue b)
 none_from_places b n [] octets test size = (λ _. refl, λ _. test ∙ eq-eqb n 0 size)

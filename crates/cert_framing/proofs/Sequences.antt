@@ -46,7 +46,7 @@ one_length m n rest after e =
       | inr lm ↦ elim (cases_lt n 128) [ inl sn ↦ absurd (not_both n m after rest sn lm (sym e)) | inr ln ↦ one_long m n rest after lm ln e ]
     ]
 
--- the octets behind the first
+-- the octets after the first
 tail_is : (x : ℕ) (a b : List ℕ) → x ∷ a ≡ x ∷ b → a ≡ b
 tail_is x a b e = cc
 

@@ -71,7 +71,7 @@ pub all_append : (limit : ℕ) (items more : List (List ℕ)) → AllByRecursion
 all_append limit [] more all all' = all'
 all_append limit (item ∷ items) more all all' = (all.0, all_append limit items more all.1 all')
 
--- no item begins what is behind the longest list
+-- no item begins what comes after the longest list
 pub longest_has_none : (limit : ℕ) (stream : List ℕ) (items : List (List ℕ)) (rest : List ℕ) → IsLongest limit stream items rest
     → HasNoItem limit rest
 longest_has_none limit stream items rest longest item after is e =

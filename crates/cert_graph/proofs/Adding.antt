@@ -67,7 +67,7 @@ adds_then n a b c P Q P' Q' h k = record {
   );
 }
 
--- the same links in other words
+-- links in other words
 pub adds_as : (n : ℕ) (a b : List Group) (P Q P' Q' : ℕ → ℕ → Type 0) → Adds n a b P Q → ((v w : ℕ) → P v w ↔ P' v w) → ((v w : ℕ) → Q v w ↔ Q' v w) → Adds n a b P' Q'
 adds_as n a b P Q P' Q' h p q = record {
   within = h.within;

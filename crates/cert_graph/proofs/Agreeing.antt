@@ -1,4 +1,4 @@
--- Graphs that agree have the same adequate answers.
+-- Graphs that agree have equal adequate answers.
 use Rattle.std.specs.Prelude.{◌↔◌}
 use Rattle.std.proofs.Common.{◌≡◌, ℕ, ◌+◌, Bool, not, cond, List, [], ◌∷◌, ◌++◌, length, arith, ap, sym, ◌∙◌, subst, refl, inl, inr}
 use Rattle.cert_graph.specs.declared.reach.Reach.{Reach}
@@ -88,7 +88,7 @@ adequate_same g h e fu target (Path ps a table) k = path_same g h e fu target ps
 adequate_same g h e fu target (NoPath table) k = none_same g h e target (rows_of table) k
 adequate_same g h e fu target NoTarget k = λ x. k ((e.certificate target).1 x)
 
--- fit is usable in one graph where it is so in the other
+-- fit is usable in one graph if it is so in the other
 pub agreed_fit : (g h : Graph) → Agrees g h → FitIsUsable g → FitIsUsable h
 agreed_fit g h e fu v fit = (e.usable v).0 (fu v ((e.fit v).1 fit))
 

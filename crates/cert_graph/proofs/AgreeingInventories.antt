@@ -1,4 +1,4 @@
--- Graphs that agree have the same adequate inventories.
+-- Graphs that agree have equal adequate inventories.
 use Rattle.std.proofs.Common.{ℕ, ◌+◌, ◌-◌, ◌∙◌, List, length, take, drop, replicate, subst}
 use Rattle.std.specs.Prelude.{◌↔◌}
 use Rattle.cert_graph.specs.declared.reach.Reach.{Reach}

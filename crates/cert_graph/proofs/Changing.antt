@@ -36,7 +36,7 @@ changed_more row now xs i d within e =
 pub unchanged_more : (row now : List Reach) (xs : List Change) (i : ℕ) (d : Change) → i < length xs → length now ≤ (get_or xs i d).position → now ≡ changed row (take i xs) → now ≡ changed row (take (i + 1) xs)
 unchanged_more row now xs i d within past e = sym (set_past now (get_or xs i d).position (get_or xs i d).reach past) ∙ changed_more row now xs i d within e
 
--- the same of changes as the code keeps them
+-- the changes, as the code keeps them
 abbrev pub items_by : List (Vec Change Global) → List (List Change)
 items_by steps = map (λ (s : Vec Change Global). s.items) steps
 

@@ -17,7 +17,7 @@ pub count_split : (g : Graph) (c q : ℕ) (ps front : List ℕ) (v p : ℕ) (bac
 count_split g c q ps [] v p back e = let same : v ≡ q = cc e in ap (λ n. c + counted g (n ∷ [])) same ∙ count_moved g c q []
 count_split g c q ps (x ∷ front) v p back e = let same : x ≡ q = cc e in ap (λ n. c + counted g (n ∷ (front ++ v ∷ []))) same ∙ count_moved g c q (front ++ v ∷ [])
 
--- the same as one clause over the whole list
+-- no smaller issuer, as one clause over the whole list
 abbrev pub NotSmaller : Graph → List (List Reach) → ℕ → List ℕ → Type 0
 NotSmaller g rows c ps = (front back : List ℕ) (v p w : ℕ) → ps ≡ front ++ v ∷ p ∷ back → w < p → g.Fit w → g.Edge v w → Takes (at_row (row_of rows (length back)) w) (c + counted g (issuers_of (front ++ v ∷ []))) → ⊥
 

@@ -49,7 +49,7 @@ none_below g row members stairs i count d h within last k below t =
       | inr above ↦ let e : k ≡ i - 1 = omega arith in last some (subst (λ (j : ℕ). Takes (get_or stairs j d).reach count) e t)
     ]
 
--- where no stair takes a count, no member is open
+-- if no stair takes a count, no member is open
 pub none_taking : (g : Graph) (row : List Reach) (members : List ℕ) (stairs : List Stair) (i count : ℕ) (d : Stair) → AreStairs g row members stairs → length stairs ≤ i
     → ((k : ℕ) → k < i → Takes (get_or stairs k d).reach count → ⊥) → IsLeastOption (OpenIn g row members count) None
 none_taking g row members stairs i count d h past before n o =
@@ -57,7 +57,7 @@ none_taking g row members stairs i count d h past before n o =
     let inside = x.1.0 in
     before x.0 (omega arith) (x.1.1 d).1
 
--- the flight that is found from behind tells the row's stairs
+-- the flight that is found from the end on gives the row's stairs
 -- each flight begins above those before it
 abbrev pub Ascend : List Flight → Type 0
 Ascend flights = (i j : ℕ) (d : Flight) → i < j → j < length flights → (get_or flights i d).row < (get_or flights j d).row

@@ -171,7 +171,7 @@ one_on g rows row i groups x flights old new within is was step h =
       ],
     )
 
--- the same of flights as the code keeps them
+-- flights as the code keeps them, one group more
 pub vector_on : (g : Graph) (rows : List (List Reach)) (row : List Reach) (i : ℕ) (groups : List Group) (x : Group) (vectors : List (Vec Flight Global)) (old new : Vec Flight Global) → i < length groups → x ≡ get_or groups i x
     → i < length vectors → old ≡ get_or vectors i old → (AreFlightsSoFar g rows x.members.items old.items → AreFlightsSoFar g (rows ++ row ∷ []) x.members.items new.items)
     → AreOnTo g rows row i groups (flights_in vectors) → AreOnTo g rows row (i + 1) groups (flights_in (set vectors i new))
@@ -209,7 +209,7 @@ rows_counted none steps i within = length-rows none (take i steps) ∙ length-ta
 pub all_flights : (g : Graph) (rows : List (List Reach)) (groups : List Group) (flights : List (List Flight)) → OfEachGroup (AreFlightsSoFar g rows) groups flights → OfEachGroup (AreFlights g rows) groups flights
 all_flights g rows groups flights h = (h.0, λ k group own lt. (h.1 k group own lt).0)
 
--- stairs are one where their positions and reaches are
+-- stairs are one if their positions and reaches are
 abbrev stair_at : ℕ → Reach → Stair
 stair_at position reach = record { position = position; reach = reach }
 

@@ -28,7 +28,7 @@ at_most_trans r s t a b = at_most_from_takes r t (λ c x. more_takes s t c b (mo
 abbrev pub StandsOver : List Reach → List Reach → Type 0
 StandsOver row before = (v : ℕ) → IsAtMost (at_row before v) (at_row row v)
 
--- a change to what is no less, in a row that stands over another
+-- a change to what is no less, in a row that is above another
 over_set : (first row : List Reach) (p : ℕ) (reach : Reach) → StandsOver row first → IsAtMost (at_row first p) reach → StandsOver (set row p reach) first
 over_set first row p reach over rise v = elim (cases_lt v p) [
   | inl below ↦ subst (IsAtMost (at_row first v)) (sym (get_or-set_other row p v reach No (λ e. absurd (omega (arith, e, below))))) (over v)
@@ -60,7 +60,7 @@ pub limits_kept : (nodes : Nodes) (before row : List Reach) → StandsOver row b
 unfolding HoldsEachLimit HoldsLimits HoldsLimit
 limits_kept nodes before row over h = λ k d lt some j e inside fit. at_most_trans _ _ _ (h k d lt some j e inside fit) (over _)
 
--- where the groups of what changed before are followed, all are
+-- if the groups of what changed before are followed, all are
 pub followed : (nodes : Nodes) (places : List (List ℕ)) (last : List Change) (older before row : List Reach) → AreMemberships nodes places → before ≡ changed older last → StandsOver row before → FollowsRow nodes older before
     → FollowsAt nodes before row (touched places last) → FollowsRow nodes before row
 unfolding FollowsRow HoldsAllPassed HoldsPassed

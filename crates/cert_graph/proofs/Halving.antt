@@ -45,7 +45,7 @@ between_down xs number low high m up h above below least = let small = h.small i
   ];
 }
 
--- where the places meet, the number stands there or nowhere
+-- if the places meet, the number is there or nowhere
 pub between_found : (xs : List ℕ) (number low high : ℕ) → IsStrictlyIncreasing xs → IsBetween xs number low high → high ≤ low → Contains xs number → (low < length xs) × (get_or xs low 0 ≡ number)
 between_found xs number low high up h meet x =
     let k = x.0 in

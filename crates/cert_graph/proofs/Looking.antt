@@ -140,7 +140,7 @@ pub named_nowhere : (ends : Group → List ℕ) (nodes : Nodes) (numbers : List 
 named_nowhere ends nodes numbers v w i issuing past before l =
     before (subst (λ (xs : List ℕ). NamedBy ends nodes.groups.items xs w) (sym (take_all i numbers past)) ((named_linked ends nodes numbers v w issuing).1 l))
 
--- the least number with a property is below a bound where some such number is
+-- the least number with a property is below a bound if some such number is
 pub below_iff : (P : ℕ → Type 0) (n bound : ℕ) → IsLeast P n → (nat_lt n bound ≡ true) ↔ ((w : ℕ) × (w < bound) × P w)
 below_iff P n bound least = (
   λ t. (n, ltb-true n bound t, least.0),

@@ -38,7 +38,7 @@ none_of P xs i past before n h =
     let inside = h.0.1 in
     before k (omega arith) (subst P (sym (sym (get_or_default xs k n 0 inside) ∙ h.0.2)) h.1)
 
--- the least with a property is the least with a property that says the same
+-- the least with a property is the least with a property that is equivalent
 pub least_same : (P Q : ℕ → Type 0) (o : Option ℕ) → ((w : ℕ) → P w ↔ Q w) → IsLeastOption P o → IsLeastOption Q o
 least_same P Q None k h = λ n q. h n ((k n).1 q)
 least_same P Q (Some m) k h = ((k m).0 h.0, λ n less q. h.1 n less ((k n).1 q))

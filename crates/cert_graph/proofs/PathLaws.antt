@@ -86,7 +86,7 @@ valid_from g fu target (w ∷ ps) a t = record {
   limits = limits_of_tail g 0 w ps a t.2;
 }
 
--- a valid path with a position that stands twice is not the first
+-- a valid path with a position that comes twice is not the first
 pub none_twice_from : (g : Graph) (target : ℕ) (front between back : List ℕ) (v : ℕ) (issuers : List ℕ) (a : ℕ) → target ∷ issuers ≡ front ++ v ∷ (between ++ v ∷ back) → FromTarget g target issuers a
     → (shorter : List ℕ) × (length shorter < length issuers) × FromTarget g target shorter a
 none_twice_from g target [] between back v issuers a e t =

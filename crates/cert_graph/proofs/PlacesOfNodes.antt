@@ -18,7 +18,7 @@ any_at P xs i d within p = (i, get_or xs i d, within, get_or_default xs i (get_o
 pub meet : {X : Type 0} (P Q : X → Type 0) (xs : List X) → All P xs → Any Q xs → (x : X) × P x × Q x
 meet P Q xs h e = (e.1, subst P e.3 (h e.0 e.1 e.2), e.4)
 
--- what `any` answers
+-- what `any` returns
 pub any_iff : {X : Type 0} (P : X → Type 0) (r : Bool) (xs : List X) → MatchBool r ((k : ℕ) × (k < length xs) × HoldsAt P xs k) (AllWithin (λ x. P x → ⊥) xs 0 (length xs)) → (r ≡ true) ↔ Any P xs
 any_iff P true xs h = (λ e. let x = element_at xs h.0 h.1 in (h.0, x.0, h.1, x.1, subst P x.1 (h.2 x.0)), λ a. refl)
 any_iff P false xs h = (λ e. absurd (false≢true e), λ a. absurd (h a.0 a.1 (omega arith) a.2 (subst P (sym a.3) a.4)))

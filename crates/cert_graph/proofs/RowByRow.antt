@@ -168,7 +168,7 @@ pub none_there : (steps : List (Vec Change Global)) (b : Bool) → b ≡ (length
 none_there [] b is t = refl
 none_there (s ∷ steps) b is t = absurd (grind arith)
 
--- where there are no steps the width doesn't matter
+-- if there are no steps the width doesn't matter
 pub no_steps : (m n : ℕ) (steps : List (Vec Change Global)) → length steps ≡ 0 → rows_by (replicate m No) (items_by steps) ≡ rows_by (replicate n No) (items_by steps)
 no_steps m n [] e = refl
 no_steps m n (s ∷ steps) e = absurd (omega arith)

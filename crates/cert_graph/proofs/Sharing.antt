@@ -32,7 +32,7 @@ table_take g rows n t = record {
       (subst (λ (s : List Reach). IsSuccessor g (row_of rows k) s) (sym (get_or-take n rows (k + 1) [] next)) (t.successors k within));
 }
 
--- the last row is told by its place
+-- the last row is known by its place
 pub last_iff : (g : Graph) (rows : List (List Reach)) (row : List Reach) (k : ℕ) → k + 1 ≡ length rows → row ≡ row_of rows k → {P : Type 0} → (P ↔ IsSuccessor g row row) → P ↔ StandsAtLast g rows
 last_iff g rows row k last is h = (
   λ p j e. let same : k ≡ j = omega arith in
@@ -82,7 +82,7 @@ inventory_true g inventory h = record {
   each = λ t within d. verdict_true g (shared_rows g inventory) t (get_or inventory.verdicts.items t d) (h.each t within d);
 }
 
--- an inventory's parts, where its rows are written out
+-- an inventory's parts, if its rows are written out
 pub inventory_iff : (g : Graph) (inventory : Inventory) (rows : List (List Reach)) → rows ≡ shared_rows g inventory → length inventory.verdicts.items ≡ g.items → IsTable g rows → StandsAtLast g rows
     → {P : Type 0} → (P ↔ OfEach (IsAdequateVerdict g rows) inventory.verdicts.items) → P ↔ IsAdequateInventory g inventory
 inventory_iff g inventory rows same count table stands h = (

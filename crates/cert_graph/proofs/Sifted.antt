@@ -31,7 +31,7 @@ push_ascends xs v up below k lt =
           omega arith
     ]
 
--- of k places, in ascending order, those behind a first one that have a property are chosen
+-- of k places, in ascending order, those after a first one that have a property are chosen
 pub record Sifted (first : ℕ) (C : ℕ → Type 0) (ps : List ℕ) (k : ℕ) (out : List ℕ) : Type 0 where
   pub ascends : IsStrictlyIncreasing out
   pub exact : (v : ℕ) → Contains out v ↔ ((i : ℕ) × (i < k) × (get_or ps i 0 ≡ first + v) × C v)

@@ -18,7 +18,7 @@ use Rattle.cert_graph.proofs.ReachFacts.{no_takes, none_taken}
 use Rattle.cert_graph.proofs.GroupFacts.{anchored_iff, successor_iff, open_below}
 use Rattle.cert_graph.proofs.Checks.{lowest_to_clause, lowest_from_clause}
 
--- a test that answers false, or true, of what is not so, or so
+-- a test that returns false, or true, of what is not so, or so
 pub refuted : {P : Type 0} → (P → ⊥) → (false ≡ true) ↔ P
 refuted h = (λ e. absurd (false≢true e), λ p. absurd (h p))
 
@@ -56,7 +56,7 @@ shut_iff nodes row v true k =
     refuted (λ h. none_taken (at_row row x.0) 0 (h x.0 x.2.0 x.2.1) x.2.2)
 shut_iff nodes row v false k = granted (λ w fit e. no_takes (at_row row w) (λ t. false≢true (k.1 ((open_below nodes row v 0 (length nodes.items.items)).1 (w, fit.0, (fit, e, t))))))
 
--- no anchor, where the test finds none
+-- no anchor, if the test finds none
 pub no_anchor : (nodes : Nodes) (v : ℕ) (r : Bool) → ((r ≡ true) ↔ ((a : ℕ) × LinksToAnchor nodes v a)) → r ≡ false → (b : ℕ) → (graph_of nodes).AnchorEdge v b → ⊥
 no_anchor nodes v r k e b edge = false≢true (sym e ∙ k.1 (b, edge))
 

@@ -57,7 +57,7 @@ untouched lists (x ∷ xs) row w k c not =
     untouched lists xs (set row x.position x.reach) w k c (λ t. not (Contains-append_right (get_or lists x.position []) (touched lists xs) k t))
     ∙ get_or-set_other row x.position w x.reach No other
 
--- rows that hold the same at the members have the same stairs
+-- rows that agree at the members have equal stairs
 open_same : (g : Graph) (r s : List Reach) (members : List ℕ) (count w : ℕ) → at_row r w ≡ at_row s w → OpenIn g r members count w → OpenIn g s members count w
 open_same g r s members count w e o = (o.0, (o.1.0, subst (λ (x : Reach). Takes x count) e o.1.1))
 
@@ -90,7 +90,7 @@ last_flight g rows members flights some h =
       ],
     )
 
--- a row that holds the same at the members as the last one
+-- a row that agrees at the members with the last one
 pub flight_same : (g : Graph) (rows : List (List Reach)) (row : List Reach) (members : List ℕ) (flights : List Flight) → 0 < length rows → ((w : ℕ) → Contains members w → at_row row w ≡ at_row (row_of rows (length rows - 1)) w)
     → AreFlightsSoFar g rows members flights → AreFlightsSoFar g (rows ++ row ∷ []) members flights
 flight_same g rows row members flights some same h =
@@ -161,7 +161,7 @@ one_climbed g rows row done i groups x flights old new within is was step h =
           ],
     )
 
--- the same of flights as the code keeps them
+-- flights as the code keeps them, one group more
 pub vector_climbed : (g : Graph) (rows : List (List Reach)) (row : List Reach) (done : List ℕ) (i : ℕ) (groups : List Group) (x : Group) (vectors : List (Vec Flight Global)) (old new : Vec Flight Global) → i < length groups → x ≡ get_or groups i x
     → i < length vectors → old ≡ get_or vectors i old → (MayClimb g rows row x.members.items old.items → AreFlightsSoFar g (rows ++ row ∷ []) x.members.items new.items × MayClimb g rows row x.members.items new.items)
     → AreClimbing g rows row done groups (flights_in vectors) → AreClimbing g rows row (done ++ i ∷ []) groups (flights_in (set vectors i new))
@@ -180,7 +180,7 @@ listed nodes places k group w filled lt c =
     let within : w < length nodes.items.items = All-contains (λ (u : ℕ). u < length nodes.items.items) (get_or nodes.groups.items k group).members.items w (nodes.members_within k group lt) c in
     ((filled.each w within).exact k lt).1 (lt, λ d. subst (λ (g : Group). Contains g.members.items w) (get_or_default nodes.groups.items k group d lt) c)
 
--- where all that changed was gone over, all flights go on
+-- if all that changed was gone over, all flights go on
 pub all_climbed : (nodes : Nodes) (rows : List (List Reach)) (places : List (List ℕ)) (step : List Change) (row now : List Reach) (flights : List (List Flight)) → 0 < length rows → AreMemberships nodes places
     → row ≡ row_of rows (length rows - 1) → now ≡ changed row step → AreClimbing (graph_of nodes) rows now (touched places step) nodes.groups.items flights
     → OfEachGroup (AreFlightsSoFar (graph_of nodes) (rows ++ now ∷ [])) nodes.groups.items flights

@@ -47,13 +47,13 @@ not_shorter_first g target ps a rows h (w ∷ rest) b short t =
     none_taken (at_row (row_of rows k.0) w) 0 (h.not_shorter k.0 w k.1 (tail_fit g 0 w rest b t.2) t.1)
     (rows_take g rows h.anchored h.successors rest k.0 0 w b fits within t.2)
 
--- the chain from a place of a path on, met at the count of what stands before it
+-- the chain from a place of a path on, met at the count of what comes before it
 pub tail_at : (g : Graph) (target : ℕ) (front : List ℕ) (p : ℕ) (rest : List ℕ) (a : ℕ) → FromTarget g target (front ++ p ∷ rest) a → Tail g (counted g front) p rest a
 tail_at g target [] p rest a t = t.2
 tail_at g target (u ∷ front) p rest a t =
     subst (λ (n : ℕ). Tail g n p rest a) (zero-add (counted g (u ∷ front))) (tail_drop g 0 u front p rest a t.2)
 
--- no path of the same length with a smaller position
+-- no path of equal length with a smaller position
 pub not_smaller_first : (g : Graph) (target : ℕ) (ps : List ℕ) (a : ℕ) (rows : List (List Reach)) → IsAdequatePath g target ps a rows
     → (qs : List ℕ) (b : ℕ) → IsValidPath g target qs b → length qs ≡ length ps
     → (front : List ℕ) (p q : ℕ) (prest qrest : List ℕ) → qs ≡ front ++ p ∷ prest → ps ≡ front ++ q ∷ qrest → p < q → ⊥

@@ -28,14 +28,14 @@ row_of rows k = slice_index_or rows k []
 abbrev pub passed_by : Graph → ℕ → Reach → Reach
 passed_by g v r = cond (g.self_issued v) r (less_one r)
 
--- where a fit position has a link to an anchor, the row holds its limit at least
+-- if a fit position has a link to an anchor, the row holds its limit at least
 unfoldable pub HasAnchoredAt : Graph → List Reach → ℕ → Type 0
 HasAnchoredAt g row v = (a : ℕ) → g.Fit v → g.AnchorEdge v a → IsAtMost (g.limit v) (at_row row v)
 
 abbrev pub HasAnchored : Graph → List Reach → Type 0
 HasAnchored g row = (v : ℕ) → HasAnchoredAt g row v
 
--- where a fit position links to a fit one, the next row holds at least what the link lets through
+-- if a fit position links to a fit one, the next row holds at least what the link lets through
 abbrev pub IsSuccessor : Graph → List Reach → List Reach → Type 0
 IsSuccessor g r s = (v w : ℕ) → g.Fit v → g.Fit w → g.Edge v w → IsAtMost (lesser (g.limit v) (passed_by g v (at_row r w))) (at_row s v)
 

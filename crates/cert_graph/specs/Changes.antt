@@ -4,7 +4,7 @@ use Rattle.cert_graph.specs.declared.reach.Reach.{Reach}
 use Rattle.cert_graph.specs.declared.changes.Change.{Change}
 use Rattle.cert_graph.specs.Adequate.{changed}
 
--- the last of these rows, or the row itself where there is none
+-- the last of these rows, or the row itself if there is none
 abbrev pub last_by : List Reach → List (List Change) → List Reach
 last_by row [] = row
 last_by row (step ∷ steps) = last_by (changed row step) steps

@@ -13,7 +13,7 @@ pub record Graph : Type 1 where
   pub Fit : ℕ → Type 0
   -- its subject is its issuer (RFC 5280, 6.1)
   pub self_issued : ℕ → Bool
-  -- its path length constraint, or Any; of no matter where it is not fit (RFC 5280, 4.2.1.9)
+  -- its path length constraint, or Any; of no matter if it is not fit (RFC 5280, 4.2.1.9)
   pub limit : ℕ → Reach
   -- the first was issued under the second's name and key
   pub Edge : ℕ → ℕ → Type 0
@@ -46,7 +46,7 @@ pub record IsValidPath (g : Graph) (target : ℕ) (ps : List ℕ) (anchor : ℕ)
   pub anchored : EndsIn (λ v. g.AnchorEdge v anchor) ps
   pub limits : KeepsLimits g 0 issuers
 
--- A list of issuers that leads to an anchor, where the first is met at a count.
+-- A list of issuers that leads to an anchor, the first being met at a count.
 pub record IsChain (g : Graph) (c : ℕ) (qs : List ℕ) (anchor : ℕ) : Type 0 where
   pub some : qs ≢ []
   pub fit : All g.Fit qs

@@ -19,7 +19,7 @@ HasAnchorBelow v bound g = Contains g.issued.items v × Any (λ a. a < bound) g.
 unfoldable pub HoldsLimit : Nodes → List Reach → ℕ → Type 0
 HoldsLimit nodes row v = (graph_of nodes).Fit v → IsAtMost ((graph_of nodes).limit v) (at_row row v)
 
--- where a group has anchors, each fit certificate that is linked to it holds its limit at least
+-- if a group has anchors, each fit certificate that is linked to it holds its limit at least
 unfoldable pub HoldsLimits : Nodes → List Reach → Group → Type 0
 HoldsLimits nodes row g = 0 < length g.anchors.items → All (HoldsLimit nodes row) g.issued.items
 

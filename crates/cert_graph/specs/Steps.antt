@@ -5,7 +5,7 @@ use Rattle.cert_graph.specs.Reach.{Takes}
 use Rattle.cert_graph.specs.Graph.{Graph}
 use Rattle.cert_graph.specs.Adequate.{at_row, row_of}
 
--- one more where a certificate is not self-issued
+-- one more if a certificate is not self-issued
 abbrev pub one_of : Graph → ℕ → ℕ
 one_of g v = cond (not (g.self_issued v)) 1 0
 

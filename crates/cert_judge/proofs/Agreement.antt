@@ -76,7 +76,7 @@ at_iff xs ys P Q same v iff = (
   λ h. let lt : v < length xs = omega (arith, h.0) in let y = element ys v h.0 in (lt, λ x. (iff x y.0 h.0).1 (h.1 y.0)),
 )
 
--- the same of a function's values
+-- what relates elements of one place relates a function's values
 seen : {X Y Z : Type 0} (xs : List X) (ys : List Y) (f : X → Z) (g : Y → Z) (z : Z) → length xs ≡ length ys → (v : ℕ) → (v < length ys → (x : X) (y : Y) → f (get_or xs v x) ≡ g (get_or ys v y)) → get_or (map f xs) v z ≡ get_or (map g ys) v z
 seen xs ys f g z same v eq =
     elim (cases_lt v (length ys)) [

@@ -245,7 +245,7 @@ under_names r items x c m n k l e f h = subst (λ z. IsIssuedUnder r items x c n
 judged_at : (moment : CivilTime) (xs : List Item) (js : List JudgedItem) → AreJudged moment xs js → (v : ℕ) (x : Item) (j : JudgedItem) → v < length xs → x ≡ get_or xs v x → j ≡ get_or js v j → IsJudged moment x j
 judged_at moment xs js h v x j lt a b = subst (λ z. IsJudged moment z j) (sym a) (subst (IsJudged moment (get_or xs v x)) (sym b) (h.each v x j lt))
 
--- The same of links.
+-- The links between judged items are the links between the items.
 module _ (moment : CivilTime) (demand : Bool) (W : Vouching) (xs ys : List Item) (js hs : List JudgedItem) (judged : AreJudged moment xs js) (anchored : AreJudged moment ys hs) where
   pub edge_iff : (v w : ℕ) → IsAt xs w (IsCertificateWith (IsFitIssuer any_identifier moment)) → IsSomeLink W.Vouches demand js hs v w ↔ IsAt xs v (λ x. IsAt xs w (λ y. IsLink (rules_at moment demand W) xs x y))
   edge_iff v w fit =

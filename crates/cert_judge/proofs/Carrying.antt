@@ -125,7 +125,7 @@ same_items items = record { certificates = λ v x c at is. at; lists = λ x l is
 never_both : (l : RevocationList) (d : Certificate) → list l ≡ certificate d → ⊥
 never_both l d e = cc
 
--- a further certificate behind the others
+-- a further certificate after the others
 pub one_item_more : (items : List Item) (y : Item) (d : Certificate) → y.class ≡ certificate d → Keeps (λ v. v) items (items ++ y ∷ [])
 one_item_more items y d is_y =
     let long = length-append items (y ∷ []) in record {
@@ -201,7 +201,7 @@ exchanged_keeps front back x y is_x is_y =
       );
     }
 
--- what is shown of two others is the same
+-- what is shown of two others is equal
 shown_alike : {Z : Type 0} (g : Class → Z) (front back : List Item) (x y : Item) → x.class ≡ other → y.class ≡ other → map (λ (i : Item). g i.class) (front ++ x ∷ back) ≡ map (λ (i : Item). g i.class) (front ++ y ∷ back)
 shown_alike g [] back x y is_x is_y = ap (λ k. g k ∷ map (λ (i : Item). g i.class) back) (is_x ∙ sym is_y)
 shown_alike g (z ∷ front) back x y is_x is_y = ap (λ l. g z.class ∷ l) (shown_alike g front back x y is_x is_y)

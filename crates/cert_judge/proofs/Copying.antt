@@ -174,7 +174,7 @@ copies_all js ps k firsts lists end h = record {
   complete = λ v c. h.complete v ((met_contains ps k v end).1 c);
 }
 
--- alike items say the same
+-- alike items agree
 cert_moved : (P Q : JudgedCertificate → Type 0) → ((c d : JudgedCertificate) → c.octets.now ≡ d.octets.now → c.serial.now ≡ d.serial.now → P c → Q d) → (i j : JudgedItem) → AreAlike i j → WithCertificate P i → WithCertificate Q j
 cert_moved P Q f (certificate_judged c) (certificate_judged d) a h = f c d a.0 a.1 h
 cert_moved P Q f (certificate_judged c) (list_judged m) a h = absurd a

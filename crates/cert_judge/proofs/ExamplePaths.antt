@@ -195,7 +195,7 @@ rolled_over_twice =
       ),
     )
 
--- two certificates that aren't self-issued stand below one that takes one
+-- two certificates that aren't self-issued are below one that takes one
 pub other_road : (a : ℕ) → IsValidPath twice 0 (0 ∷ 1 ∷ 2 ∷ 6 ∷ []) a → ⊥
 other_road a h =
     let issuers : h.issuers ≡ (1 ∷ 2 ∷ []) ++ 6 ∷ [] = sym (ap (drop 1) h.starts) in
@@ -238,7 +238,7 @@ one_below : one_of limited 1 ≡ 1
 unfolding name_octets relative_name_octets attribute_octets
 one_below = refl
 
--- behind b's certificate comes c's alone, which takes none below it
+-- after b's certificate comes c's alone, which takes none below it
 no_tail : (is : List ℕ) (a : ℕ) → Tail limited 0 1 is a → ⊥
 no_tail [] zero t = unlike 0x63 0x64 (λ e. omega (arith, e)) (anchor_names (vouching_for_all false) (bundle limited_above) plain_b (anchor_named 0x64) ((t.2.1 (certificate_item plain_b)).1 (certificate_item plain_b)))
 no_tail [] (suc a) t = absurd (omega (arith, (t.2.1 (certificate_item plain_b)).0))
@@ -288,7 +288,7 @@ alone_among_equals (suc (suc a)) t = absurd (omega (arith, (t.1.1 (certificate_i
 again_among_equals : (is : List ℕ) (a : ℕ) → FromTarget equals 0 (0 ∷ is) a → ⊥
 again_among_equals is a t = not_empty 0x62 (link_names (vouching_for_all false) (bundle equal_issuers) issued_by_b issued_by_b ((t.1.1 (certificate_item plain_b)).1 (certificate_item plain_b)))
 
--- what stands at the place where a list of two differs from a path with a smaller position there
+-- what is at the place where a list of two differs from a path with a smaller position there
 smaller : (issuers front prest qrest : List ℕ) (p q a : ℕ) → 0 ∷ issuers ≡ front ++ p ∷ prest → 0 ∷ 1 ∷ [] ≡ front ++ q ∷ qrest → p < q → FromTarget equals 0 issuers a → ⊥
 smaller issuers [] prest qrest p q a e f less t = let zero_is : 0 ≡ q = ap (λ (s : List ℕ). get_or s 0 0) f in omega (arith, less, zero_is)
 smaller issuers (x ∷ []) prest qrest p q a e f less t =

@@ -97,7 +97,7 @@ unknown_extension h =
       | inr more ↦ more
     ]
 
--- but usable where the caller processes it
+-- but usable if the caller processes it
 pub processed_extension : IsUsable (λ identifier. identifier ≡ extended_key_usage) in_june (extended_by (extension extended_key_usage true unconstrained ∷ []))
 unfolding EachUnder IsProcessed
 processed_extension =

@@ -32,7 +32,7 @@ pub processed_by_any : (es : List Extension) → All (IsProcessed any_identifier
 unfolding IsProcessed
 processed_by_any es = λ k d lt critical. inr tt
 
--- where the caller processes nothing, a critical extension is judged here
+-- if the caller processes nothing, a critical extension is judged here
 pub processed_here : (P : Identifier → Type 0) (e : Extension) → ((id : Identifier) → P id → ⊥) → IsProcessed P e ↔ (e.critical ≡ true → IsJudgedHere e.identifier)
 unfolding IsProcessed
 processed_here P e none = (λ h critical. elim (h critical) [ inl here ↦ here | inr more ↦ absurd (none e.identifier more) ], λ h critical. inl (h critical))
@@ -94,7 +94,7 @@ next_more xs k x bs lt h unprocessed =
     subst (λ ids. AreFurther (map ext_view (take (k + 1) xs)) ids) (sym (map-append now bs ((get_or xs k x).identifier ∷ [])))
     (subst (λ es. AreFurther es (map now bs ++ e.identifier ∷ [])) (next_of xs k x lt) (further_more (map ext_view (take k xs)) (map now bs) e h unprocessed))
 
--- all are processed exactly where the caller processes the further ones
+-- all are processed exactly if the caller processes the further ones
 pub processed_iff : (P : Identifier → Type 0) (es : List Extension) (ids : List Identifier) → AreFurther es ids → All (IsProcessed P) es ↔ All P ids
 unfolding IsProcessed
 processed_iff P es ids f = (

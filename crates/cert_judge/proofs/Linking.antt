@@ -24,7 +24,7 @@ not_held e = cc
 pub fit_is_usable : (r : JudgingContext) (items anchor_items : List Item) → FitIsUsable (graph_of_items r items anchor_items)
 fit_is_usable r items anchor_items v h = (h.0, λ d. let f = h.1 d in (f.0, f.1, f.2.usable))
 
--- a reader that finds a key identifier and no other tells whether there is one
+-- a reader that finds a key identifier and no other returns whether there is one
 pub names_from : (c : Certificate) (o : Option (Bor (List ℕ))) → IfSome o (λ s. IsAuthorityKeyId c s.now) → ((id : List ℕ) → IsAuthorityKeyId c id → IsSomeAnd o (λ s. s.now ≡ id)) → NamesKeyId c (option_map (λ s. s.now) o)
 names_from c (Some s) found only = ∣ (λ id. (λ h. ap Some (only id h), λ e. subst (IsAuthorityKeyId c) (one_held e) found)) ∣₁
 names_from c None found only = ∣ (λ id. (λ h. absurd (only id h), λ e. absurd (not_held e))) ∣₁

@@ -60,7 +60,7 @@ IsBucketLink V demand js all b = IsNamedLink V demand js all b.text.now
 abbrev pub IsBucketAnchor : (List ℕ → List ℕ → Type 0) → Bool → List JudgedItem → List Place → ℕ → Bucket → ℕ → ℕ → Type 0
 IsBucketAnchor V demand js all m b = IsNamedAnchor V demand js all m b.text.now
 
--- what was issued under a name stands by the lists of that name
+-- what was issued under a name is checked by the lists of that name
 module _ (V : List ℕ → List ℕ → Type 0) (demand : Bool) (js : List JudgedItem) (all : List Place) (name : List ℕ) (issued : List ℕ) (under : (v : ℕ) → Contains issued v ↔ IsUnder js all name v) where
   stands_iff : (key serial : List ℕ) → StandsBy V demand js issued key serial ↔ StandsUnder V demand js all name key serial
   stands_iff key serial = (
@@ -216,6 +216,6 @@ under_from js all name places issued named exact v = (
 pub bucket_at : (S : ℕ → List ℕ → Type 0) (places : List ℕ) (bs : List Bucket) (k : ℕ) (b : Bucket) → b ≡ get_or bs k b → k < length bs → AreBuckets S places bs → IsBucket S places b
 bucket_at S places bs k b at lt h = subst (IsBucket S places) (sym at) (h.each k b lt)
 
--- buckets behind references
+-- buckets through references
 pub buckets_of : (part : Part) (all all' : List Place) (chosen chosen' : List ℕ) (bs bs' : List Bucket) → all ≡ all' → chosen ≡ chosen' → bs' ≡ bs → AreBuckets (Shows part all) chosen bs → AreBuckets (Shows part all') chosen' bs'
 buckets_of part all all' chosen chosen' bs bs' a c b h = subst (AreBuckets (Shows part all') chosen') (sym b) (subst (λ l. AreBuckets (Shows part all') l bs) c (subst (λ z. AreBuckets (Shows part z) chosen bs) a h))

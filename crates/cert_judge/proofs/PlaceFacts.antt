@@ -1,4 +1,4 @@
--- What stands at the places of items and anchors.
+-- What is at the places of items and anchors.
 use Rattle.std.proofs.Common.{◌≡◌, ◌∙◌, ap, sym, ℕ, ◌+◌, ◌<◌, List, ◌++◌, length, map, length-append, arith, get_or, Some}
 use Rattle.std.specs.List.{slice_get}
 use Rattle.std.proofs.Math.ListN.{get_or-append}

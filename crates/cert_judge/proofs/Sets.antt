@@ -1,4 +1,4 @@
--- A set of octet strings is as large as its list exactly where none stands twice.
+-- A set of octet strings is as large as its list exactly if none comes twice.
 use Rattle.std.specs.Prelude.{◌↔◌, IsTrue}
 use Rattle.std.proofs.Common.{◌≡◌, ◌≢◌, ◌∙◌, sym, subst, ℕ, ◌<◌, Bool, false, List, [], ◌∷◌, map, length, arith, Bor, eqb, Ordering}
 use Rattle.std.specs.Bool.{Decides}

@@ -107,7 +107,8 @@ with_both A P Q f (certificate_judged c) a h = f c a h
 with_both A P Q f (list_judged l) a h = h
 with_both A P Q f other_judged a h = h
 
--- Who is not in the set stands, and the other way round, if its serial number was asked about.
+-- A certificate whose serial number is not in the set is not revoked, and the other way round, if
+-- its serial number was asked about.
 pub issued_iff : (V : List ℕ → List ℕ → Type 0) (demand : Bool) (js : List JudgedItem) (places key : List ℕ) (asked : List (Bor (List ℕ))) (listed : Bool) (revoked : BTreeSet (Bor (List ℕ))) → (IsTrue listed ↔ Any (IsUsedAt V js key) places)
     → ((s : Bor (List ℕ)) → HasEqual s.now asked → IsTrue (sorted.contains R revoked s) ↔ Any (IsUsedAgainstAt V js key s.now) places) → (demand ≡ true → IsTrue listed)
     → AreAsked js places asked → (v : ℕ) → Contains places v → IsIssuedBeside V revoked js key v ↔ IsIssuedAt V demand js places key v
@@ -121,7 +122,7 @@ stands_listed V demand js places key (certificate_judged c) d h = h.1.listed d
 stands_listed V demand js places key (list_judged l) d h = absurd h
 stands_listed V demand js places key other_judged d h = absurd h
 
--- where a list is demanded and none is used, nobody stands
+-- if a list is demanded and none is used, no certificate counts as issued
 pub none_issued : (V : List ℕ → List ℕ → Type 0) (demand : Bool) (js : List JudgedItem) (places key : List ℕ) (listed : Bool) → (IsTrue listed ↔ Any (IsUsedAt V js key) places) → demand ≡ true → listed ≡ false → (v : ℕ) → IsIssuedAt V demand js places key v → ⊥
 none_issued V demand js places key listed lists d un v h =
     let j = element js v h.0 in

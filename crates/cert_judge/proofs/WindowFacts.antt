@@ -54,7 +54,7 @@ tbs_is c =
     let opts = optional_octets (implicit_bits_octets 1) c.issuer_id ∷ optional_octets (implicit_bits_octets 2) c.subject_id ∷ tagged_extensions_octets 3 c.extensions ∷ [] in
     ap sequence_octets (split (nat_lt 0 c.version) (explicit_octets 0 (number_octets (c.version ∷ []))) (fixed_parts c) opts)
 
--- behind the first part
+-- after the first part
 abbrev pub signed_rest : Algorithm → Bits → List ℕ
 signed_rest a b = concat (algorithm_octets a ∷ bit_field_octets b ∷ [])
 

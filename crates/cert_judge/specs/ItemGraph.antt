@@ -23,7 +23,7 @@ pub record IsIssuedUnder (r : JudgingContext) (items : List Item) (x : Item) (c 
   pub vouched : r.Vouches key x.octets
   pub satisfied : IsSatisfied r items name key c.serial
 
--- where the one names its issuer's key and the other its own, they agree
+-- if the one names its issuer's key and the other its own, they agree
 abbrev pub KeyIdsAgree : Certificate → Certificate → Type 0
 KeyIdsAgree c d = (a s : List ℕ) → IsAuthorityKeyId c a → IsSubjectKeyId d s → a ≡ s
 
@@ -41,7 +41,7 @@ self_issued_of (certificate c) = pointwise nat_eq (name_octets c.subject) (name_
 self_issued_of (list l) = false
 self_issued_of other = false
 
--- the path length constraint; of no matter where the item is no fit issuer
+-- the path length constraint; of no matter if the item is no fit issuer
 abbrev pub limit_of : Class → Reach
 limit_of (certificate c) = path_limit c
 limit_of (list l) = No

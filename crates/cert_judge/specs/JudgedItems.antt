@@ -16,7 +16,7 @@ use Rattle.cert_judge.specs.Revoking.{Item, IsCurrent, IsPlain}
 use Rattle.cert_judge.specs.Named.{NamesKeyId, HasKeyId}
 use Rattle.cert_judge.specs.ItemGraph.{IsCertificateWith, self_issued_of, limit_of}
 
--- What is judged of an item by itself is in its node, where the caller processes extensions of some
+-- What is judged of an item by itself is in its node, if the caller processes extensions of some
 -- identifiers.
 pub record IsNodeOf (P : Identifier → Type 0) (moment : CivilTime) (x : Item) (n : Node) : Type 0 where
   pub certificate : (n.certificate ≡ true) ↔ IsCertificateWith (λ c. Unit {0}) x

@@ -7,7 +7,7 @@ use Rattle.cert_model.specs.Fields.{Identifier, Extension, Certificate}
 use Rattle.cert_model.specs.Extended.{basic_constraints}
 use Rattle.cert_judge.specs.Constraints.{value_of}
 
--- the value of the first extension of an identifier, empty where there is none
+-- the value of the first extension of an identifier, empty if there is none
 abbrev pub first_value : Identifier → List Extension → List ℕ
 first_value identifier [] = []
 first_value identifier (e ∷ es) = if pointwise nat_eq e.identifier identifier then e.value else first_value identifier es

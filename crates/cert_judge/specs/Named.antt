@@ -1,4 +1,4 @@
--- Key identifiers as the code holds them, where there are any.
+-- Key identifiers as the code holds them, if there are any.
 use Rattle.std.specs.Prelude.{◌≡◌, ◌↔◌, ℕ, List, Option, Some}
 use Rattle.cert_model.specs.Fields.{Certificate}
 use Rattle.cert_model.specs.KeyIds.{IsAuthorityKeyId, IsSubjectKeyId}

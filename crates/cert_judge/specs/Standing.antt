@@ -56,6 +56,6 @@ octets_in (certificate_judged j) = j.octets.now
 octets_in (list_judged j) = j.octets.now
 octets_in other_judged = []
 
--- everything is vouched for, where it was chosen by who vouches for it
+-- everything is vouched for, if it was chosen by who vouches for it
 abbrev pub anything : List ℕ → List ℕ → Type 0
 anything key item = Unit {0}

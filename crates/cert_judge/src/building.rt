@@ -37,10 +37,10 @@ fn judged_nodes<V: Vouch>(
 ///
 /// `vouched_by_each` is called once for each name, with the keys of the anchors and fit issuers
 /// that have it as their subject and the certificates and lists that were issued under it, of equal
-/// ones the first. Where a type implements `vouches` alone, that asks once for each of these keys
+/// ones the first. If a type implements `vouches` alone, that asks once for each of these keys
 /// and items, and this product is the caller's to bear. The entries of a list in force are sorted
 /// once. A key that vouches for it then costs one look-up there for each certificate that it
-/// vouches for, or one step for each entry where these are fewer or at most 16. `processes` is
+/// vouches for, or one step for each entry if these are fewer or at most 16. `processes` is
 /// called once for each critical extension that isn't judged here. All else takes the time of
 /// sorted maps: places are brought together by name, then by key, and then by key identifier, and
 /// items by their octets.

@@ -76,7 +76,7 @@ fn path_len_of(octets: &[u8]) -> Option<Option<u32>>
     Some(Some(number))
 }
 
-/// What the octets of the value say, where they are well written.
+/// What the octets of the value say, if they are well written.
 pub(crate) fn constraints_of(value: &[u8]) -> Option<Constraints>
     ensures found { IfSome result (λ r. (b : BasicConstraints) × IsBasicConstraints value.now b × (b.ca ≡ r.ca) × (option_map value_of b.path_len ≡ r.path_len)) }
     ensures only { (b : BasicConstraints) → IsBasicConstraints value.now b

@@ -136,7 +136,7 @@ impl<'a> JudgedItem<'a> {
         }
     }
 
-    /// What it shows as an issuer, where it may be fit to be one.
+    /// What it shows as an issuer, if it may be fit to be one.
     pub(crate) fn as_member(&self) -> Place<'a>
         ensures { result ≡ as_member self.now }
     {

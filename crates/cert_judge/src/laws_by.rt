@@ -22,7 +22,7 @@ ghost use Rattle.cert_judge.specs.Revoking.{Item};
 
 use crate::Vouch;
 
-/// Where a value processes no extension of an item, a critical one there has to be basicConstraints
+/// If a value processes no extension of an item, a critical one there has to be basicConstraints
 /// or keyUsage (RFC 5280, 6.1.4, o).
 pub fn processed_by_nobody_else<V: Vouch>(_vouch: &V)
     ensures { (item : List ℕ) → ((identifier : List ℕ) → (V.vouches_for _vouch.now).Processes item identifier → ⊥)
@@ -30,7 +30,7 @@ pub fn processed_by_nobody_else<V: Vouch>(_vouch: &V)
 {}
 
 /// Whether a certificate is usable depends on what is processed in its further critical extensions
-/// alone: it is usable exactly where it is if the caller processes each extension, and each is
+/// alone: it is usable exactly if it would be when the caller processes each extension, and each is
 /// processed.
 pub fn usable_by<V: Vouch>(_vouch: &V)
     ensures { (moment : CivilTime) (item : List ℕ) (c : Certificate) → let P = (V.vouches_for _vouch.now).Processes item in

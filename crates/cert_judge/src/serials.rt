@@ -48,7 +48,7 @@ fn add_asked<'a>(
     Ok(())
 }
 
-/// Adds, of the serial numbers of a list, at least those that are asked about. Where fewer are
+/// Adds, of the serial numbers of a list, at least those that are asked about. If fewer are
 /// asked about than the list has, and the list's are known as a set, each is looked up there.
 pub(crate) fn add_list<'a>(
     revoked: &mut BTreeSet<&'a [u8]>,

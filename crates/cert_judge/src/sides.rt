@@ -1,6 +1,6 @@
 //! Links between copies of items and the holders of keys, on the side that has fewer places.
 //!
-//! Where c copies of an item are linked to h holders of a key, either the key's group takes the c
+//! If c copies of an item are linked to h holders of a key, either the key's group takes the c
 //! places, or the item's group takes the h.
 
 ghost use Rattle.std.specs.Prelude.{◌≡◌, ◌↔◌, ◌⊎◌, ◌+◌, ◌<◌, ◌≤◌, ◌^◌, ℕ, List, length, map, All, Contains, IfOk, OnOk};
@@ -13,7 +13,7 @@ use cert_graph::lists::{empty_lists, put};
 use cert_graph::{Group, Place, link_places};
 use std::alloc::{AllocError, Global};
 
-/// Adds a list of this number, where there is one.
+/// Adds a list of this number, if there is one.
 fn append(all: &mut Vec<usize>, lists: &[Vec<usize>], number: usize) -> Result<(), AllocError>
     ensures { OnOk result ((v : ℕ) → Contains all.new.items v ↔ (Contains all.old.items v ⊎ IsIn (map (λ l. l.items) lists.now) number v)) }
 {

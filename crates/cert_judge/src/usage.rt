@@ -50,7 +50,7 @@ fn may_sign(unused: u8, octets: &[u8]) -> bool
     }
 }
 
-/// Whether the octets of the value have keyCertSign, where they are well written.
+/// Whether the octets of the value have keyCertSign, if they are well written.
 pub(crate) fn signs_by(value: &[u8]) -> Option<bool>
     ensures found { IfSome result (λ sign. (b : Bits) × IsKeyUsage value.now b × (IsTrue sign ↔ MaySignCertificates b)) }
     ensures only { (b : Bits) → IsKeyUsage value.now b → IsSomeAnd result (λ sign. IsTrue sign ↔ MaySignCertificates b) }

@@ -19,7 +19,7 @@ pub trait Vouch {
 
     /// Whether the caller processes extensions with an identifier, its content octets, in a whole
     /// item, so that they may be critical there (RFC 5280, 6.1.4, o, and 6.1.5, f): it has to judge
-    /// their values. basicConstraints and keyUsage are judged here, whatever is answered.
+    /// their values. basicConstraints and keyUsage are judged here, whatever is returned.
     fn processes(&self, item: &[u8], identifier: &[u8]) -> bool
         ensures { IsTrue result ↔ (vouches_for self.now).Processes item.now identifier.now };
 

@@ -22,7 +22,7 @@ use Rattle.cert_model.proofs.Tagged.{Otherwise, over, other, tagged_found, tagge
 use Rattle.cert_model.proofs.TimeParts.{times, time_laws}
 use Rattle.cert_model.proofs.Next.{next_found, next_only, numbers, number_laws, bit_fields, bits_laws, algorithms, algorithm_laws, names, name_laws, keys, key_laws}
 
--- the end behind the last part
+-- the end after the last part
 pub ends : (ts : Trees) (u : Unit {0}) → end_at ts ≡ Some u → all_octets ts ≡ []
 ends ts u e = (end_found ts e).1
 
@@ -110,7 +110,7 @@ tbs_read k t p o e =
 pub tbs_found : (k : ℕ) (t : Tree) (p : TbsPieces) → IsObject k t → tbs_at t ≡ Some p → AreTbsPieces p × (tbs_pieces_octets p ≡ octets t)
 tbs_found k t p o e = let m = tbs_read k t p o e in (m.0, m.1)
 
--- behind an absent part stand others, or nothing
+-- after an absent part come others, or nothing
 
 not_this : (tag n : ℕ) (e : Element) → IsTagged n e → ((tag ≡ n) → ⊥) → is_tagged tag e ≡ false
 not_this tag n e p differ = grind (arith, nat_tests)

@@ -69,7 +69,7 @@ list_once s l m p q =
     let t = the_tree s p.object in
     list_of_tree t.0 l m t.1 (list_only 50 t.0 l t.1 p.in_range (p.spelled ∙ sym t.2)) (list_only 50 t.0 m t.1 q.in_range (q.spelled ∙ sym t.2))
 
--- no octets are both: behind the name a certificate has a sequence, a list a time
+-- no octets are both: after the name a certificate has a sequence, a list a time
 
 -- a sequence is no text or time
 sequence_or_plain : (j : Kind) (c : Content) (ts : Trees) (s : List ℕ) → sequence_of c ≡ Some ts → plain_of j c ≡ Some s → ⊥
@@ -115,7 +115,7 @@ next_first {A = A} read ts m e =
     let both : ◌≡◌ {A = A × Trees} (value, first.1) m = cc in
     (first.0, e0 ∙ ap (λ (z : A × Trees). Some (first.0, z.1)) both, e1 ∙ ap (λ (z : A × Trees). Some z.0) both)))
 
--- behind the name of a certificate's first part
+-- after the name of a certificate's first part
 pub record CertificateFront (ts : Trees) : Type 0 where
   pub serial : List ℕ × Trees
   pub signature : Algorithm × Trees
@@ -126,7 +126,7 @@ pub record CertificateFront (ts : Trees) : Type 0 where
   pub third : next_at name_at signature.1 ≡ Some issuer
   pub fourth : next_at validity_at issuer.1 ≡ Some validity
 
--- behind the name of a list's first part
+-- after the name of a list's first part
 pub record ListFront (ts : Trees) : Type 0 where
   pub version : Option ℕ × Trees
   pub signature : Algorithm × Trees
@@ -182,7 +182,7 @@ list_version_is : (x : Tree) (xs : Trees) (o : Option (List ℕ)) (m : Option �
 unfolding list_version_at
 list_version_is x xs o m is e = ap (λ z. list_version_of z x xs) (sym is) ∙ e
 
--- where the same parts stand behind the versions, one has a sequence and the other a time
+-- if equal parts come after the versions, one has a sequence and the other a time
 same_tails : (ts us : Trees) (a : Algorithm × Trees) (n : Name × Trees) (v : (CivilTime × CivilTime) × Trees) (b : Algorithm × Trees) (m : Name × Trees) (d : CivilTime × Trees) → ts ≡ us →
     next_at algorithm_at ts ≡ Some a → next_at name_at a.1 ≡ Some n → next_at validity_at n.1 ≡ Some v →
     next_at algorithm_at us ≡ Some b → next_at name_at b.1 ≡ Some m → next_at time_at m.1 ≡ Some d → ⊥
@@ -271,7 +271,7 @@ class_once s other (certificate c) p q = absurd (p.0 c q)
 class_once s other (list l) p q = absurd (p.1 l q)
 class_once s other other p q = refl
 
--- equal fields where equal octets, and the other way round
+-- equal fields if equal octets, and the other way round
 
 pub one_certificate : (s r : List ℕ) (c d : Certificate) → IsCertificateItem s c → IsCertificateItem r d → (c ≡ d) ↔ (s ≡ r)
 one_certificate s r c d p q =

@@ -121,20 +121,20 @@ extensions_once s es fs small p q =
     let second = extensions_only 50 o.tree fs o.object (subst (λ z. AreExtensionsOf z fs) (sym o.spelled) q) in
     cc
 
--- where no object begins the octets, they spell no extensions
+-- if no object begins the octets, they spell no extensions
 pub no_object : (s : List ℕ) → IsSmall s → (BeginsWithObject 50 s → ⊥) → (es : List Extension) → AreExtensionsOf s es → ⊥
 no_object s small refused es p =
     let o = extensions_object s es small p in
     refused (o.tree, [], o.object, sym o.spelled ∙ sym (append-nil (octets o.tree)))
 
--- where more octets follow an object, they spell no extensions
+-- if more octets follow an object, they spell no extensions
 pub object_with_rest : (s rest : List ℕ) (t : Tree) → IsSmall s → IsObject 50 t → s ≡ octets t ++ rest → 0 < length rest → (es : List Extension) → AreExtensionsOf s es → ⊥
 object_with_rest s rest t small q is long es p =
     let o = extensions_object s es small p in
     let same = object_once 50 50 o.tree t [] rest o.object q (append-nil (octets o.tree) ∙ o.spelled ∙ is) in
     omega (arith, ap length same.1, long)
 
--- where one object is all of the octets, they spell what is read of it
+-- if one object is all of the octets, they spell what is read of it
 pub object_read : (s rest : List ℕ) (t : Tree) → IsSmall s → IsObject 50 t → s ≡ octets t ++ rest → length rest ≡ 0 → (octets t ≡ s)
 object_read s [] t small q is short = sym (is ∙ append-nil (octets t))
 object_read s (x ∷ rest) t small q is short = absurd (omega (arith, short))

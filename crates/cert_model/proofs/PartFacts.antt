@@ -24,7 +24,7 @@ element_head class constructed tag content rest s small fits e =
     let below = class_below class in
     (record { class = below; tag = small; size = omega arith }, spelled)
 
--- what is behind a header of a size holds the content
+-- what comes after a header of a size holds the content
 pub content_at : (n : ℕ) (after content rest : List ℕ) → n ≡ length content → after ≡ content ++ rest
     → (n ≤ length after) × (take n after ≡ content) × (take (length after - n) (drop n after) ≡ rest)
 content_at n after content rest size e =
@@ -33,7 +33,7 @@ content_at n after content rest size e =
     let m : length after - n ≡ length rest = omega arith in
     (omega arith, rw (e, size) (take-append_seam content rest), rw (m, d) (take-length rest))
 
--- the same of an element of any identifier
+-- the header and the content of an element of any identifier
 pub part_head : (e : Element) (rest s : List ℕ) → e.class < 4 → e.tag < 2 ^ 32 → length s < 2 ^ 64 → s ≡ element_octets e ++ rest
     → IsHead (head_of_element e) × (s ≡ strict_header (head_of_element e) ++ (e.content ++ rest))
 part_head e rest s class tag fits is =

@@ -1,4 +1,4 @@
--- Where a step of reading finds nothing, no fields write the octets.
+-- If a step of reading finds nothing, no fields write the octets.
 use Rattle.std.proofs.Common.{◌≡◌, ◌∙◌, sym, ap, ℕ, Bool, true, false, ◌&&◌, List, Option, Some, None, subst}
 use Rattle.der_tree.specs.Tree.{Tree, octets}
 use Rattle.der_tree.specs.Shape.{IsObject}

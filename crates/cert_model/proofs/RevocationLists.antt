@@ -103,7 +103,7 @@ entry_element a p = (universal true 16 (concat (number_octets a.serial ∷ time_
 entry_laws : IsKind Entry entries AreEntryFields
 entry_laws = record { element = entry_element; found = entry_found; only = entry_only }
 
--- what stands at the front: an element of some kind, or nothing
+-- what is at the front: an element of some kind, or nothing
 pub data Fronted (Is : Element → Type 0) (r : List ℕ) : Type 0 where
   nothing : r ≡ [] → Fronted Is r
   front : (e : Element) (x : List ℕ) → e.class < 4 → e.tag < 2 ^ 32 → Is e → r ≡ element_octets e ++ x → Fronted Is r
@@ -354,7 +354,7 @@ tbs_list_read k t p o e =
 pub tbs_list_found : (k : ℕ) (t : Tree) (p : TbsListPieces) → IsObject k t → tbs_list_at t ≡ Some p → AreTbsListPieces p × (tbs_list_pieces_octets p ≡ octets t)
 tbs_list_found k t p o e = let m = tbs_list_read k t p o e in (m.0, m.1)
 
--- behind an absent part stand others, or nothing
+-- after an absent part come others, or nothing
 
 fronted_tagged : (Is : Element → Type 0) (o : Option Element) → IfThere (IsTagged 0) o → ((e : Element) → IsTagged 0 e → Is e) → Fronted Is (optional_octets element_octets o ++ [])
 fronted_tagged Is None p is = nothing refl

@@ -51,6 +51,6 @@ first_part k ts e r p class tag =
       rest = record { objects = m.5; spelled = m.6; short = omega (arith, length-append (element_octets e) r, p.short) };
     }
 
--- what one part is followed by, where all are spelled so
+-- what one part is followed by, if all are spelled so
 pub no_more : (k : ℕ) (ts : Trees) → Parts k [] ts → ts ≡ none
 no_more k ts p = end_only k ts p.objects p.spelled

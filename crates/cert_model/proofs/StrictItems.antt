@@ -12,7 +12,7 @@ use Rattle.cert_model.specs.Range.{AreCertificateFields, AreListFields}
 use Rattle.cert_model.specs.Class.{IsObjectItem, IsCertificateItem, IsListItem}
 use Rattle.cert_model.proofs.Steps.{in_sequence}
 
--- octets of an object are an item under the greatest limit, where they are a sequence
+-- octets of an object are an item under the greatest limit, if they are a sequence
 pub object_item : (s : List ℕ) (t : Tree) (content : List ℕ) → IsObject 50 t → octets t ≡ s → sequence_octets content ≡ s → IsObjectItem s
 object_item s t content o is spelled =
     let parts = in_sequence 50 t content o (spelled ∙ sym is) in

@@ -13,7 +13,7 @@ abbrev pub version_number : List ℕ → Option ℕ
 version_number (a ∷ b ∷ v ∷ []) = if a == 2 && b == 1 && (v == 1 || v == 2) then Some v else None
 version_number _ = None
 
--- the version, 0 where it isn't written
+-- the version, 0 if it isn't written
 abbrev pub version_in : Option Element → Option ℕ
 version_in None = Some 0
 version_in (Some e) = if e.constructed then version_number e.content else None

@@ -22,7 +22,7 @@ set_octets content = element_octets (record { class = 0; constructed = true; tag
 abbrev pub explicit_octets : ℕ → List ℕ → List ℕ
 explicit_octets tag content = element_octets (record { class = 2; constructed = true; tag = tag; content = content })
 
--- OPTIONAL: nothing where there is no value
+-- OPTIONAL: nothing if there is no value
 abbrev pub optional_octets : {A : Type 0} → (A → List ℕ) → Option A → List ℕ
 optional_octets write None = []
 optional_octets write (Some value) = write value
@@ -52,7 +52,7 @@ bit_field_octets b = primitive_octets 3 (bits_content b)
 abbrev pub implicit_bits_octets : ℕ → Bits → List ℕ
 implicit_bits_octets tag b = element_octets (record { class = 2; constructed = false; tag = tag; content = bits_content b })
 
--- its whole seconds, where the year isn't negative
+-- its whole seconds, if the year isn't negative
 abbrev pub moment_in : CivilTime → Moment
 moment_in t = record { year = unsigned_abs t.year; month = t.month; day = t.day; hour = t.hour; minute = t.minute; second = t.second }
 
@@ -84,7 +84,7 @@ name_octets sets = sequence_octets (flat_map relative_name_octets sets)
 unfoldable pub key_octets : Key → List ℕ
 key_octets k = sequence_octets (algorithm_octets k.algorithm ++ bit_field_octets k.key)
 
--- BOOLEAN DEFAULT FALSE: written only where true, as ff (X.690, 11.1 and 11.5)
+-- BOOLEAN DEFAULT FALSE: written only if true, as ff (X.690, 11.1 and 11.5)
 abbrev pub flag_octets : Bool → List ℕ
 flag_octets flag = if flag then primitive_octets 1 (255 ∷ []) else []
 

@@ -24,7 +24,7 @@ pub record IsNumber (n : Number) : Type 0 where
 abbrev pub IsIdentifier : Identifier → Type 0
 IsIdentifier = IsOidContent
 
--- unused bits from 0 to 7, none where no octet follows, all of them 0 (X.690, 8.6.2 and 11.2.1)
+-- unused bits from 0 to 7, none if no octet follows, all of them 0 (X.690, 8.6.2 and 11.2.1)
 abbrev pub AreBits : Bits → Type 0
 AreBits b = IsTrue (is_bit_string (bits_content b))
 
@@ -106,7 +106,7 @@ pub record IsEntry (version : Option ℕ) (e : Entry) : Type 0 where
   pub extensions : AreExtensions e.extensions
   pub extensions_from : e.extensions ≢ [] → version ≡ Some 1
 
--- A list's fields (RFC 5280, 5.1.2). The version, where it is written, is 2 (written 1).
+-- A list's fields (RFC 5280, 5.1.2). The version, if it is written, is 2 (written 1).
 pub record AreListFields (l : RevocationList) : Type 0 where
   pub version : IfThere (λ version. version ≡ 1) l.version
   pub signature : IsAlgorithm l.signature

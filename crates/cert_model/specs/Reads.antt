@@ -119,7 +119,7 @@ extensions_at t = do
 abbrev pub is_tagged : ℕ → Element → Bool
 is_tagged tag e = e.class == 2 && e.tag == tag
 
--- the element of a context-specific tag at the front, where there is one, and the rest
+-- the element of a context-specific tag at the front, if there is one, and the rest
 unfoldable pub tagged_at : ℕ → Trees → Option Element × Trees
 tagged_at tag none = (None, none)
 tagged_at tag (more t ts) = if is_tagged tag (element_at t) then (Some (element_at t), ts) else (None, more t ts)

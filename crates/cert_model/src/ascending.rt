@@ -204,7 +204,7 @@ fn is_attribute_at_most(a: &AttrField<'_>, b: &AttrField<'_>) -> bool
     compare(&a_pieces, &b_pieces).is_le()
 }
 
-// Whether the octets of the first attribute are at most those of the second, where there are two.
+// Whether the octets of the first attribute are at most those of the second, if there are two.
 fn is_first_at_most_second(attributes: &[AttrField<'_>]) -> bool
     ensures { are_ascending (map attribute_octets (map attr_view attributes.now))
         ≡ (result && are_ascending (map attribute_octets (map attr_view (drop 1 attributes.now)))) }

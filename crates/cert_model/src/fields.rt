@@ -90,7 +90,7 @@ pub struct EntryFields<'a> {
     pub extensions: Vec<ExtField<'a>>,
 }
 
-/// CertificateList with its TBSCertList (RFC 5280, 5.1). `version` is 1 where it is written.
+/// CertificateList with its TBSCertList (RFC 5280, 5.1). `version` is 1 if it is written.
 #[derive(Debug, PartialEq, Eq, Drop)]
 pub struct ListFields<'a> {
     pub version: Option<u8>,

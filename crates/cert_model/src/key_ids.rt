@@ -28,7 +28,7 @@ fn first_under<'a>(extensions: &[ExtField<'a>], n: u8) -> Option<&'a [u8]>
     None
 }
 
-/// The content of the first element of the one sequence that the octets are, where it is [0] and
+/// The content of the first element of the one sequence that the octets are, if it is [0] and
 /// has no parts.
 fn key_id_of(value: &[u8]) -> Option<&[u8]>
     ensures found { IfSome result (λ id. BeginsWithKeyId value.now id.now) }

@@ -6,12 +6,12 @@ ghost use Rattle.cert_model.specs.Octets.{certificate_octets, list_octets};
 ghost use Rattle.cert_model.specs.Class.{IsCertificateItem, IsListItem, Class, IsClassOf};
 ghost use Rattle.cert_model.specs.Examples.{plain, constrained, issued_by_b, authority_b, revoking, octets_of_plain, octets_of_constrained, octets_of_issued_by_b, octets_of_authority_b, octets_of_revoking};
 
-/// Two strict certificates have equal fields exactly where they have equal octets.
+/// Two strict certificates have equal fields exactly if they have equal octets.
 pub fn one_spelling()
     ensures { (s r : List ℕ) (c d : Certificate) → IsCertificateItem s c → IsCertificateItem r d → (c ≡ d) ↔ (s ≡ r) }
 {}
 
-/// Two strict lists have equal fields exactly where they have equal octets.
+/// Two strict lists have equal fields exactly if they have equal octets.
 pub fn one_spelling_of_lists()
     ensures { (s r : List ℕ) (l m : RevocationList) → IsListItem s l → IsListItem r m → (l ≡ m) ↔ (s ≡ r) }
 {}

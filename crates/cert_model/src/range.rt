@@ -50,7 +50,7 @@ fn is_negative_integer(content: &[u8]) -> bool
     }
 }
 
-/// Whether 0 to 7 bits are unused, all of them 0, and none where no octet follows (X.690, 8.6.2 and
+/// Whether 0 to 7 bits are unused, all of them 0, and none if no octet follows (X.690, 8.6.2 and
 /// 11.2.1).
 fn are_bits(bits: &BitField<'_>) -> bool
     ensures { IsTrue result ↔ AreBits (bit_view bits.now) }

@@ -71,7 +71,7 @@ tail : List Extension → List Extension
 tail [] = []
 tail (e ∷ es) = es
 
--- an extension of the identifier behind another one stands in no front
+-- an extension of the identifier after another one is in no front
 apart : (id : Identifier) (front : List Extension) (e : Extension) (back f : List Extension) (a : Extension) (m : List Extension) (b : Extension) (r : List Extension)
     → front ++ e ∷ back ≡ (f ++ a ∷ m) ++ b ∷ r → IsWithout id front → IsWithout id back → a.identifier ≡ id → b.identifier ≡ id → ⊥
 unfolding tail IsWithout
@@ -83,7 +83,7 @@ apart id (y ∷ front) e back (x ∷ f) a m b r p h k u w = apart id front e bac
 pub more_not_one : (id : Identifier) (es : List Extension) (v : List ℕ) → AreMore id es → IsOneUnder id es v → ⊥
 more_not_one id es v m o = apart id o.front o.extension o.back m.front m.first m.middle m.second m.back (sym o.place ∙ m.place) o.before o.behind m.is_first m.is_second
 
--- how goals write what stands past the end
+-- how goals write what is past the end
 abbrev pub blank : ExtField
 blank = record { identifier = record { ref_ptr = (0, 0); now = [] }; critical = false; value = record { ref_ptr = (0, 0); now = [] } }
 

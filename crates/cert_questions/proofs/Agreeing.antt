@@ -1,4 +1,4 @@
--- JudgingContext that agree on the questions have the same links.
+-- JudgingContext that agree on the questions have equal links.
 use Rattle.std.specs.Prelude.{◌↔◌}
 use Rattle.std.proofs.Common.{◌≡◌, ◌∙◌, ap, sym, subst, refl, ℕ, ◌+◌, ◌<◌, List, ◌++◌, length, length-append, get_or, slice_get, Some, arith}
 use Rattle.std.specs.List.{Contains}
@@ -28,7 +28,7 @@ use Rattle.cert_questions.specs.Questions.{Holds, IsQuestion}
 use Rattle.cert_questions.specs.Agreeing.{AgreeOnQuestions, SayTheSameOf}
 use Rattle.cert_questions.proofs.FirstHolders.{first_holder}
 
--- under a name and key both rules say the same of each item that was issued there
+-- under a name and key both rules agree on each item that was issued there
 record AgreeUnder (r s : JudgingContext) (items : List Item) (name key : List ℕ) : Type 0 where
   moment : r.moment ≡ s.moment
   demand : r.demand_lists ≡ s.demand_lists

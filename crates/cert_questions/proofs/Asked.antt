@@ -167,7 +167,7 @@ issued_within items v name e = elim (cases_lt v (length items)) [
   | inr past ↦ absurd (not_some (sym (ap (at_item issuer_of) (slice_get_past items v past)) ∙ e))
 ]
 
--- the same with the number of items in other words
+-- the questions, with the number of items in other words
 record AreCounted (n : ℕ) (items anchors : List Item) (qs : List Question) : Type 0 where
   sound : (q : Question) → Contains qs q → IsHolder n q.holder × IsQuestion items anchors q.item (place_of n q.holder)
   complete : (v h : ℕ) → IsQuestion items anchors v h → (q : Question) × Contains qs q × (q.item ≡ v) × (place_of n q.holder ≡ h)

@@ -1,4 +1,4 @@
--- Where there is a holder of a name and key, there is a first one.
+-- If there is a holder of a name and key, there is a first one.
 use Rattle.std.specs.Prelude.{IsTrue, ◌⊎◌}
 use Rattle.std.proofs.Common.{◌≡◌, ap, subst, refl, ℕ, zero, suc, ◌<◌, Bool, true, false, List, Option, Some, None, arith, inl, inr}
 use Rattle.std.proofs.lemmas.Bool.{cases_lt, false≢true}

@@ -21,8 +21,8 @@ pub record AgreeOnQuestions (r s : JudgingContext) (items anchors : List Item) :
       → r.Vouches key x.octets ↔ s.Vouches key x.octets
   pub processed : (x : Item) (c : Certificate) (identifier : List ℕ) → Contains items x → x.class ≡ certificate c → r.Processes x.octets identifier ↔ s.Processes x.octets identifier
 
--- two graphs have equal valid paths, equal true answers and equal adequate ones, and likewise equal
--- inventories
+-- two graphs have equal valid paths, equal true answers and equal adequate ones, and equal true
+-- and adequate inventories
 pub record SayTheSameOfAll (g h : Graph) : Type 0 where
   pub paths : (target : ℕ) (ps : List ℕ) (a : ℕ) → IsValidPath g target ps a ↔ IsValidPath h target ps a
   pub holds : (target : ℕ) (answer : Answer) → IsTrueAnswer g target answer ↔ IsTrueAnswer h target answer

@@ -134,7 +134,7 @@ all_of_usable P moment c u = record {
   ordered = λ i j d lt end. absurd (omega arith);
 }
 
--- where the list of all reasons is empty, none applies
+-- if the list of all reasons is empty, none applies
 pub none_stands : (P : Identifier → Type 0) (moment : CivilTime) (c : Certificate) (rs : List Unusable) → AreAll order_of (HasReason P moment c) rs → rs ≡ [] → (r : Unusable) → HasReason P moment c r → ⊥
 none_stands P moment c rs all e r h = let at = subst (λ (xs : List Unusable). Contains xs r) e ((all.exact r).1 h) in let lt = at.1 in absurd (omega arith)
 

@@ -46,7 +46,7 @@ among_places P Q ps qs h g = record {
   exact = λ p. (λ c. let b = (g.exact p).0 c in ((h.exact p).0 b.0, b.1), λ b. (g.exact p).1 ((h.exact p).1 b.0, b.1));
 }
 
--- where all lists of an issuer are among the places, all that are in force are found
+-- if all lists of an issuer are among the places, all that are in force are found
 pub in_force_places : (xs : List ReadItem) (moment : DateTime) (name : List ℕ) (places : List ℕ) (k : ℕ) (out : List ℕ) → k ≡ length places → Sifted 0 (IsInForceAt xs moment name) places k out
     → ((p : ℕ) → IsAt xs p (IsListWith (IsOf name)) → Contains places p) → ArePlaces (IsInForceAt xs moment name) out
 in_force_places xs moment name places k out end h complete = record {
@@ -100,7 +100,7 @@ module _ (V : Vouching) (moment : DateTime) (demand : Bool) (name key : List ℕ
         ),
   )
 
-  -- a key vouches for one of the lists in force exactly where a list is used
+  -- a key vouches for one of the lists in force exactly if a list is used
   pub used_iff : (xs : List ReadItem) (lists : List ℕ) → ArePlaces (IsInForceAt xs moment name) lists → Any (IsVouchedAt V xs key) lists ↔ HasUsedList (rules_by moment demand V) (map item_of xs) name key
   used_iff xs lists h =
       let u = has_iff V moment demand name key xs in (

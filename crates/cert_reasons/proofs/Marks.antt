@@ -49,7 +49,7 @@ decided : (b : Bool) (P : Type 0) → (IsTrue b ↔ P) → ((P → ⊥) → ⊥)
 decided true P h n = h.0 refl
 decided false P h n = absurd (n (λ p. let e = h.1 p in cc))
 
--- where no reason applies, what was found shows the link
+-- if no reason applies, what was found shows the link
 pub linked : (V : Vouching) (moment : DateTime) (demand : Bool) (items : List Item) (x : Item) (c : Certificate) (name key : List ℕ) (vouched agree : Bool) → name_octets c.issuer ≡ name → (IsTrue vouched ↔ V.Vouches key x.octets)
     → (((demand ≡ true) × (HasUsedList (rules_by moment demand V) items name key → ⊥) → ⊥) → demand ≡ true → HasUsedList (rules_by moment demand V) items name key)
     → ((reason : Unlinked) → HasLinkReason (rules_by moment demand V) items x c name key (IsTrue agree) reason → ⊥) → IsIssuedUnder (rules_by moment demand V) items x c name key × IsTrue agree

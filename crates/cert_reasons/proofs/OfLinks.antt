@@ -68,9 +68,9 @@ alone_place KeyIdsDiffer kind e n = omega arith
 alone_place (RevokedBy k) kind e n = absurd (n (sym e))
 alone_place NoUsedList kind e n = omega arith
 
--- ---- places of lists, one after the other
+-- ---- places of lists, one after another
 
--- a number is behind the first k of some places, and not behind the others
+-- a number is above the first k of some places, and not above the others
 pub record IsBehind (ps : List ℕ) (k n : ℕ) : Type 0 where
   pub below : (j : ℕ) → j < k → get_or ps j 0 < n
   pub above : (j : ℕ) → k ≤ j → j < length ps → n ≤ get_or ps j 0

@@ -132,7 +132,7 @@ module _ {R : Type 0} (order : R → ℕ × ℕ) (Stands : R → Type 0) where
 pub all_as : {R : Type 0} (order : R → ℕ × ℕ) (S T : R → Type 0) (rs : List R) → AreAll order S rs → ((r : R) → S r ↔ T r) → AreAll order T rs
 all_as order S T rs h same = record { exact = λ r. (λ c. (same r).0 ((h.exact r).0 c), λ t. (h.exact r).1 ((same r).1 t)); ordered = h.ordered }
 
--- the list of all reasons is empty exactly where none applies
+-- the list of all reasons is empty exactly if none applies
 pub empty_iff : {R : Type 0} (order : R → ℕ × ℕ) (S : R → Type 0) (rs : List R) → AreAll order S rs → (rs ≡ []) ↔ ((r : R) → S r → ⊥)
 empty_iff order S [] h = (λ e r s. let lt = ((h.exact r).1 s).1 in absurd (omega arith), λ n. refl)
 empty_iff order S (x ∷ rs) h = (λ e. absurd (cc), λ n. absurd (n x ((h.exact x).0 (0, (let lt : 0 < length (x ∷ rs) = omega arith in lt), refl))))

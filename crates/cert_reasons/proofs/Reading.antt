@@ -1,4 +1,4 @@
--- Elements written one behind the other, and read one by one.
+-- Elements written one after another, and read one by one.
 use Rattle.std.proofs.Common.{◌≡◌, ◌≢◌, ◌∙◌, ap, sym, refl, ℕ, ◌<◌, Bool, true, false, Option, Some, None, Result, Ok, Err, List, [], ◌∷◌, ◌++◌, length, append_assoc, arith}
 use Rattle.std.specs.Prelude.{◌==◌, IfOk, MatchOption}
 use Rattle.std.specs.List.{AllByRecursion, flat_map}

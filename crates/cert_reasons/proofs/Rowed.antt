@@ -32,7 +32,7 @@ at_place Less n p = (λ e. absurd (false≢true e), λ h. absurd (false≢true h
 at_place Equal n p = (λ e. grind (arith, nat_tests), λ h. grind (arith, nat_tests))
 at_place Greater n p = (λ e. absurd (false≢true e), λ h. absurd (false≢true h.0))
 
--- octets are equal where they compare so
+-- octets are equal if they compare so
 same_octets : (s t : List ℕ) → (is_eq (slice_cmp nat_cmp s t) ≡ true) ↔ (s ≡ t)
 same_octets s t = subst (λ b. (b ≡ true) ↔ (s ≡ t)) (sym (is_eq-slice_cmp s t)) (bytes_eq-Decides s t)
 

@@ -355,7 +355,7 @@ alone_only (linking.RevokedBy zero) h = let u = h.1 (certificate_item plain) in 
 alone_only (linking.RevokedBy (suc k)) h = absurd (omega (arith, h.0))
 alone_only linking.NoUsedList h = inr refl
 
--- two reasons at once: no voucher, and no list where lists are demanded
+-- two reasons at once: no voucher, and no list if lists are demanded
 pub alone : AreAll link_order (HasLinkReason vouching_for_none (certificate_item plain ∷ []) (certificate_item plain) plain (name_octets []) (key_octets key) (Unit {0})) (linking.NotVouched ∷ linking.NoUsedList ∷ [])
 alone =
     two_reasons link_order (HasLinkReason vouching_for_none (certificate_item plain ∷ []) (certificate_item plain) plain (name_octets []) (key_octets key) (Unit {0})) linking.NotVouched linking.NoUsedList (inl (lit< tt)) (λ v. v) (refl, λ u. u.3.vouched) alone_only

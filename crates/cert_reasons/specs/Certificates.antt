@@ -9,12 +9,12 @@ use Rattle.cert_judge.specs.Judging.{HasConstraints, HasUsage, IsProcessed}
 use Rattle.cert_reasons.specs.declared.certificates.Unusable.{Unusable}
 use Rattle.cert_reasons.specs.declared.certificates.Unusable.TheVariants.{NotYetValid, Expired, Repeats, Unprocessed, BadConstraints, BadUsage}
 
--- an extension of the same identifier stands before the one at a position (RFC 5280, 4.2)
+-- an extension of its identifier comes before the one at a position (RFC 5280, 4.2)
 abbrev pub IsRepeat : List Extension → ℕ → Type 0
 IsRepeat es k = IsAt es k (λ e. Any (λ d. d.identifier ≡ e.identifier) (take k es))
 
--- A reason applies to a certificate at a moment, where the caller processes extensions of some identifiers. Extensions are counted
--- from 0.
+-- A reason applies to a certificate at a moment, if the caller processes extensions of some
+-- identifiers. Extensions are counted from 0.
 abbrev pub HasReason : (Identifier → Type 0) → CivilTime → Certificate → Unusable → Type 0
 HasReason P moment c NotYetValid = IsNotAfter c.not_before moment → ⊥
 HasReason P moment c Expired = IsNotAfter moment c.not_after → ⊥

@@ -7,7 +7,7 @@ use Rattle.cert_judge.specs.Examples.{in_june, too_late, extended_by, extension,
 use Rattle.cert_judge.specs.Revoking.{JudgingContext}
 use Rattle.cert_judge.specs.Vouching.{nothing}
 
--- basic constraints that stand twice
+-- basic constraints that come twice
 abbrev pub constrained_twice : Certificate
 constrained_twice = let e = extension basic_constraints false unconstrained in extended_by (e ∷ e ∷ [])
 

@@ -18,14 +18,14 @@ use cert_model::identifiers::{BASIC_CONSTRAINTS, KEY_USAGE, is_ce};
 use jiff::civil::DateTime;
 use std::alloc::{AllocError, Global};
 
-/// Why a certificate may not stand in a path at a moment. Extensions are counted from 0.
+/// Why a certificate may not be in a path at a moment. Extensions are counted from 0.
 #[derive(Clone, Copy, Debug, PartialEq, Eq)]
 pub enum Unusable {
     /// Its notBefore is later than the moment (RFC 5280, 4.1.2.5).
     NotYetValid,
     /// Its notAfter is earlier than the moment (RFC 5280, 4.1.2.5).
     Expired,
-    /// An extension of the same identifier stands before the one at this position (RFC 5280, 4.2).
+    /// An extension of its identifier comes before the one at this position (RFC 5280, 4.2).
     Repeats(usize),
     /// The extension at this position is critical, and neither one that is judged here nor one that the
     /// caller processes (RFC 5280, 6.1.4, o).
@@ -129,7 +129,7 @@ pub fn has_reason<V: Vouch>(
     }
 }
 
-/// Adds a reason, where it applies.
+/// Adds a reason, if it applies.
 fn add_if<V: Vouch>(
     found: &mut Vec<Unusable>,
     fields: &CertFields<'_>,
@@ -149,7 +149,7 @@ fn add_if<V: Vouch>(
     Ok(())
 }
 
-/// Adds a reason, where it is found to apply.
+/// Adds a reason, if it is found to apply.
 fn add<V: Vouch>(
     found: &mut Vec<Unusable>,
     fields: &CertFields<'_>,
@@ -297,8 +297,8 @@ fn is_usable<V: Vouch>(
     Ok(false)
 }
 
-/// The reasons why a certificate may not stand in a path at a moment, by what is processed in the item
-/// that it is, given by its octets. Exactly those that apply, in their order; none where it is usable.
+/// The reasons why a certificate may not be in a path at a moment, by what is processed in the item
+/// that it is, given by its octets. Exactly those that apply, in their order; none if it is usable.
 ///
 /// The only error is out of memory. A certificate that isn't usable costs as many comparisons of
 /// identifiers as a sorted set of those of its extensions, and three passes over them.

@@ -75,7 +75,7 @@ pub fn has_issuer_reason(fields: &CertFields<'_>, reason: NoIssuer) -> bool
     }
 }
 
-/// Adds a reason, where it applies.
+/// Adds a reason, if it applies.
 fn add(
     found: &mut Vec<NoIssuer>,
     fields: &CertFields<'_>,
@@ -147,7 +147,7 @@ fn issues(fields: &CertFields<'_>) -> bool
 }
 
 /// The reasons why a usable certificate may not issue others. Exactly those that apply, in their order;
-/// none where it may.
+/// none if it may.
 ///
 /// The only error is out of memory. It costs one pass over the extensions for each kind of reason.
 pub fn why_no_issuer(alloc: Global, fields: &CertFields<'_>) -> Result<Vec<NoIssuer>, AllocError>

@@ -70,7 +70,7 @@ pub fn link_has_no_reason()
         → HasLinkReason (rules_from moment demand vouches) items x c (name_octets d.subject) (key_octets d.key) (KeyIdsAgree c d) reason → ⊥ }
 {}
 
-/// A certificate is not unlinked from an item that is its issuer by name, where no reason applies.
+/// A certificate is not unlinked from an item that is its issuer by name, if no reason applies.
 pub fn link_without_reasons_is_not_missing()
     ensures { (moment : CivilTime) (demand : Bool) (vouches : List ℕ → List ℕ → Bool) (items : List Item) (x : Item) (c d : Certificate)
         → name_octets c.issuer ≡ name_octets d.subject
@@ -78,7 +78,7 @@ pub fn link_without_reasons_is_not_missing()
         → (IsIssuedUnder (rules_from moment demand vouches) items x c (name_octets d.subject) (key_octets d.key) → KeyIdsAgree c d → ⊥) → ⊥ }
 {}
 
-/// A certificate is not unlinked from an anchor that is its issuer by name, where no reason applies.
+/// A certificate is not unlinked from an anchor that is its issuer by name, if no reason applies.
 pub fn anchor_link_without_reasons_is_not_missing()
     ensures { (moment : CivilTime) (demand : Bool) (vouches : List ℕ → List ℕ → Bool) (items : List Item) (x : Item) (c d : Certificate)
         → name_octets c.issuer ≡ name_octets d.subject
@@ -124,7 +124,7 @@ pub fn examples_of_lists()
     ensures keyless { AreAll list_order (HasReasonAmong (vouching_for_all false) [] (list_item revoking) revoking) (listing.NotVouched ∷ []) }
 {}
 
-/// Examples of links: a certificate that a list revokes, one that no key vouches for where lists are
+/// Examples of links: a certificate that a list revokes, one that no key vouches for if lists are
 /// demanded, one that names another key of its issuer, and that one under an anchor.
 pub fn examples_of_links()
     ensures revoked { AreAll link_order (HasLinkReason (vouching_for_all false) (certificate_item plain ∷ list_item revoking ∷ []) (certificate_item plain) plain (name_octets []) (key_octets key) (Unit {0})) (linking.RevokedBy 1 ∷ []) }

@@ -3,8 +3,8 @@
 //!
 //! Each reason is a clause of a definition of `cert_judge` that fails. Each call returns exactly the
 //! reasons that apply, in one order: that of the enum, then of the positions. So a list of reasons is
-//! empty exactly where the definition holds. For whoever reports a purpose or a host that isn't met, the
-//! values of extKeyUsage and subjectAltName are read.
+//! empty exactly if the definition holds. For whoever reports a purpose or a host that isn't met,
+//! the values of extKeyUsage and subjectAltName are read.
 #![tactic(auto)]
 
 mod certificates;

@@ -21,9 +21,10 @@ use std::alloc::{AllocError, Global};
 /// A certificate, with the lists of its issuer among some items that are in force, and those of them
 /// that have an entry of its serial number.
 ///
-/// Made once, it tells of each issuer and anchor of its issuer's name why the certificate is not linked
-/// to it, at the cost of a look-up of vouchers for it, and one for each list that has such an entry;
-/// where lists are demanded, also for lists that are in force, up to the first with a voucher.
+/// Made once, it returns of each issuer and anchor of its issuer's name why the certificate is not
+/// linked to it, at the cost of a look-up of vouchers for it, and one for each list that has such
+/// an entry; if lists are demanded, also for lists that are in force, up to the first with a
+/// voucher.
 #[derive(Drop)]
 pub struct Linking<'b, 'a> {
     items: &'b [ReadItem<'a>],
@@ -68,8 +69,8 @@ impl<'b, 'a> Linking<'b, 'a> {
         })
     }
 
-    /// Likewise, by the lists of its issuer that are in force at the moment of the policy, which
-    /// were found among these items before.
+    /// The linking of a certificate, by the lists of its issuer that are in force at the moment of
+    /// the policy, which were found among these items before.
     ///
     /// The only error is out of memory. It costs a look-up of its serial number.
     pub fn by(

@@ -72,7 +72,7 @@ pub(crate) fn agree_on_key_id(
     }
 }
 
-/// Adds a reason, where it applies.
+/// Adds a reason, if it applies.
 fn add(
     found: &mut Vec<Unlinked>,
     findings: &Findings<'_>,
@@ -176,7 +176,7 @@ pub(crate) fn why_unlinked_under<V: Vouch>(
     Ok(found)
 }
 
-/// The same by all items, among which the lists of that name are looked for.
+/// The reasons by all items, among which the lists of that name are looked for.
 fn why_unlinked_among<V: Vouch>(
     alloc: Global,
     items: &[ReadItem<'_>],
@@ -198,11 +198,11 @@ fn why_unlinked_among<V: Vouch>(
 }
 
 /// The reasons why a certificate is not linked to an issuer among the items, by the voucher and by the
-/// lists among the items. Exactly those that apply, in their order; where its issuer is the issuer's
-/// subject, none exactly where it is linked.
+/// lists among the items. Exactly those that apply, in their order; if its issuer is the issuer's
+/// subject, none exactly if it is linked.
 ///
 /// The only error is out of memory. It asks the voucher once of the certificate, once of each list of
-/// that issuer that is in force and has an entry of its serial number, and where lists are demanded
+/// that issuer that is in force and has an entry of its serial number, and if lists are demanded
 /// once of each that is in force. It costs one pass over the items, and one over the entries of each
 /// list of that issuer: for many issuers use [`Linking`](crate::Linking).
 pub fn why_unlinked<V: Vouch>(
@@ -227,8 +227,8 @@ pub fn why_unlinked<V: Vouch>(
 }
 
 /// The reasons why a certificate is not linked to an anchor, of which the subject and the key count and
-/// nothing else (RFC 5280, 6.1.1, d). Exactly those that apply, in their order; where its issuer is the
-/// anchor's subject, none exactly where it is linked. `KeyIdsDiffer` is never among them.
+/// nothing else (RFC 5280, 6.1.1, d). Exactly those that apply, in their order; if its issuer is
+/// the anchor's subject, none exactly if it is linked. `KeyIdsDiffer` is never among them.
 ///
 /// The only error is out of memory. It costs what `why_unlinked` costs.
 pub fn why_unlinked_to_anchor<V: Vouch>(

@@ -101,7 +101,7 @@ pub fn has_list_reason(
     }
 }
 
-/// Adds a reason, where it applies.
+/// Adds a reason, if it applies.
 fn add(
     found: &mut Vec<Unused>,
     list: &ListItem<'_>,
@@ -176,7 +176,7 @@ fn is_used(list: &ListItem<'_>, moment: &DateTime, vouched: bool) -> bool
 }
 
 /// The reasons why a list is not used at a moment under a key of its issuer, given whether the key
-/// vouches for it. Exactly those that apply, in their order; none where it is used.
+/// vouches for it. Exactly those that apply, in their order; none if it is used.
 ///
 /// The only error is out of memory. It costs one pass over the extensions and entries.
 pub fn why_list_unused(
@@ -211,7 +211,7 @@ fn is_vouched_by_any<V: Vouch>(vouch: &V, keys: &[&[u8]], item: &[u8]) -> bool
 
 /// The reasons why a revocation list is used under none of some keys: those of all items and anchors
 /// whose subject is its issuer. Exactly those that apply under each of the keys, in their order; none
-/// where it is used under one. Without a key `NotVouched` applies.
+/// if it is used under one. Without a key `NotVouched` applies.
 ///
 /// The only error is out of memory. It asks the voucher at most once for each key, and costs one pass
 /// over the extensions and entries.

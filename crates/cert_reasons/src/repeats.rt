@@ -1,4 +1,4 @@
-//! Extensions whose identifier stands before them (RFC 5280, 4.2).
+//! Extensions whose identifier comes before them (RFC 5280, 4.2).
 
 ghost use Rattle.std.specs.Prelude.{◌≡◌, length, IfOk};
 ghost use Rattle.cert_reasons.specs.Repeats.{AreRepeats};
@@ -7,7 +7,7 @@ use cert_model::fields::ExtField;
 use std::alloc::{AllocError, Global};
 use std::collections::BTreeSet;
 
-/// Of each extension, whether one of the same identifier stands before it. Takes as many comparisons
+/// Of each extension, whether one of its identifier comes before it. Takes as many comparisons
 /// of identifiers as a sorted set of them.
 pub(crate) fn repeats_of(
     alloc: Global,

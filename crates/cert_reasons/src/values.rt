@@ -51,8 +51,8 @@ fn purposes_in<'a>(alloc: Global, content: &'a [u8]) -> Result<Option<Vec<Purpos
     Ok(Some(purposes))
 }
 
-/// The purposes of a value of extKeyUsage, in their order. `None` where it isn't the DER of a sequence of
-/// at least one. Linear in the octets.
+/// The purposes of a value of extKeyUsage, in their order. `None` if it isn't the DER of a sequence
+/// of at least one. Linear in the octets.
 pub fn purposes_of<'a>(
     alloc: Global,
     value: &'a [u8],
@@ -87,8 +87,8 @@ fn names_in<'a>(
     Ok(Some(names))
 }
 
-/// The names of a value of subjectAltName, in their order. `None` where it isn't the DER of a sequence of
-/// at least one. Linear in the octets.
+/// The names of a value of subjectAltName, in their order. `None` if it isn't the DER of a sequence
+/// of at least one. Linear in the octets.
 pub fn names_of<'a>(
     alloc: Global,
     value: &'a [u8],

@@ -40,7 +40,7 @@ raised_push g rows row h whole e =
       exact = λ k lt. let short : k < length rows + 1 = omega arith in push_exact g rows row h.exact e k short;
     }
 
--- one row more, told by its changes
+-- one row more, given by its changes
 pub raised_more : (g : Graph) (none : List Reach) (steps pushed : List (Vec Change Global)) (x : Vec Change Global) (last row : List Reach) → pushed ≡ steps ++ x ∷ [] → last ≡ last_by none (items_by steps) → changed last x.items ≡ row
     → Raised g (rows_by none (items_by steps)) → length row ≡ g.items → HoldsExactly g (length steps + 1) row → Raised g (rows_by none (items_by pushed))
 raised_more g none steps pushed x last row push e made h whole exact =
@@ -66,7 +66,7 @@ all_raised g none steps pushed x last row push e made h whole exact fixed few =
       bounded = omega arith;
     }
 
--- all rows are a table whose last row stands, and exact
+-- all rows are a table whose last row is stable, and exact
 pub all_table : (g : Graph) (rows : List (List Reach)) → AreAllRows g rows → IsTable g rows
 all_table g rows h = record {
   whole = h.whole;

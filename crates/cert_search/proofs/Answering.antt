@@ -1,4 +1,4 @@
--- What a search answers is adequate, and its table is exact and short.
+-- What a search returns is adequate, and its table is exact and short.
 use Rattle.std.proofs.Common.{◌≡◌, ℕ, zero, suc, ◌+◌, ◌<◌, ◌≤◌, false, List, [], ◌∷◌, ◌++◌, length, arith, ap, sym, subst, refl, inl, inr, eqb, eqb-true, ne_eqb}
 use Rattle.std.specs.Prelude.{◌⊎◌}
 use Rattle.std.specs.List.{IsDistinct, AllByRecursion}
@@ -69,7 +69,7 @@ only_row g row p (suc k) lt = absurd (omega arith)
 pub one_row_exact : (g : Graph) (number : ℕ) (row : List Reach) → HoldsExactly g number row → IsFixed g row → (k : ℕ) → k < length (row ∷ []) → HoldsAll g (row_of (row ∷ []) k) × HoldsNoElsewhere g (row_of (row ∷ []) k)
 one_row_exact g number row exact k = only_row g row (fixed_holds_all g number row exact k, exact_no_elsewhere g number row exact)
 
--- positions of which none stands twice are distinct
+-- positions of which none comes twice are distinct
 apart : (x : ℕ) (ys : List ℕ) → ((between back : List ℕ) → ys ≡ between ++ x ∷ back → ⊥) → AllByRecursion (λ y. eqb x y ≡ false) ys
 apart x [] h = tt
 apart x (y ∷ ys) h = (

@@ -23,7 +23,7 @@ use Rattle.cert_search.proofs.Answering.{distinct_of}
 use Rattle.cert_search.proofs.Exactness.{OffersExactly}
 use Rattle.cert_search.proofs.Walking.{tail_next}
 
--- a position stands in a list
+-- a position is in a list
 abbrev StandsIn : List ℕ → ℕ → Type 0
 StandsIn zs v = (front : List ℕ) × (back : List ℕ) × (zs ≡ front ++ v ∷ back)
 
@@ -66,7 +66,7 @@ next_of_tail : (g : Graph) (c v : ℕ) (ps : List ℕ) (a : ℕ) → Tail g c v 
 next_of_tail g c v [] a t = t.2
 next_of_tail g c v (w ∷ ps) a t = (t.2, t.3)
 
--- where a position stands in a chain, the rest of the chain may follow it
+-- if a position is in a chain, the rest of the chain may follow it
 next_within : (g : Graph) (c w : ℕ) (ps : List ℕ) (a : ℕ) → Tail g c w ps a → (front : List ℕ) (v : ℕ) (back : List ℕ) → w ∷ ps ≡ front ++ v ∷ back → Next g v c back a
 next_within g c w ps a t [] v back e =
     let same : w ≡ v = cc e in

@@ -55,7 +55,7 @@ pub offers_rise : (g : Graph) (m n : ℕ) (r s : List Reach) → m ≤ n → Off
 offers_rise g m n r s le h k v = at_most_from_takes (at_row r v) (at_row s v)
     (λ c t. elim ((h v c).0 t) [ inl a ↦ (k v c).1 (inl a) | inr x ↦ (k v c).1 (inr (x.0, x.1, reached_more g m n x.0 c le x.2)) ])
 
--- where the next offers are no higher, the row that they come from is raised from itself
+-- if the next offers are no higher, the row that they come from is raised from itself
 pub stands_fixed : (g : Graph) (n : ℕ) (offers row next : List Reach) → OffersExactly g n offers → IsRaisedBy g offers row → AreOffers g row next → StandsUnder next offers → IsFixed g row
 stands_fixed g n offers row next h k o under =
     let up = offers_rise g n (n + 1) offers next (omega arith) h (offers_exact g (n + 1) row next (raised_exact g n offers row h k) o) in record {

@@ -30,7 +30,7 @@ higher (UpTo m) (UpTo n) h c t = elim (cases_lt n m) [ inl lt ↦ omega arith | 
 higher (UpTo m) Each h c t = absurd (h tt)
 higher Each s h c t = tt
 
--- one position more that a row is raised at, and one where it stands as high
+-- one position more that a row is raised at, and one where it is as high
 pub raised_more : (first row : List Reach) (positions : List ℕ) (i : ℕ) (reach : Reach) → i < length positions → get_or positions i 0 < length row → (IsAtMost reach (at_row row (get_or positions i 0)) → ⊥)
     → AreRaised first row (λ v c. Contains (take i positions) v × Takes reach c) → AreRaised first (set row (get_or positions i 0) reach) (λ v c. Contains (take (i + 1) positions) v × Takes reach c)
 raised_more first row positions i reach within inside above h =
@@ -74,7 +74,7 @@ risen_more first row before now x reach inside above up k = record {
   ];
 }
 
--- a row that stands where it stood
+-- a row that is unchanged
 pub none_risen : (row : List Reach) (before : List ℕ) → HaveRisen row row before before
 none_risen row before = record { kept = λ v h. h; listed = λ v. inr refl; rose = λ v h. inl h }
 
@@ -120,7 +120,7 @@ members_still places changes i d first old within past h =
     members_more places changes i d first old old [] within (sym (get_or_past places (get_or changes i d).position [] past)) h
     (λ k c. (λ t. inl t, λ o. elim o [ inl y ↦ y | inr y ↦ absurd (nothing_in k y.0) ]))
 
--- what rose stands within the row
+-- what rose is within the row
 pub risen_within : (old new : List Reach) (after : List ℕ) → HaveRisen old new [] after → (v : ℕ) → Contains after v → v < length new
 risen_within old new after h v y = elim (h.rose v y) [
   | inl b ↦ absurd (nothing_in v b)

@@ -1,4 +1,4 @@
--- Groups told by their places.
+-- Groups given by their places.
 use Rattle.std.proofs.Common.{◌≡◌, ◌≢◌, ℕ, ◌+◌, ◌<◌, ◌≤◌, List, [], ◌∷◌, ◌++◌, length, take, get_or, set, map, arith, sym, ap, ◌∙◌, subst, refl, inl, inr, get_or-set_same, get_or-set_other}
 use Rattle.std.specs.Prelude.{◌⊎◌, ◌↔◌, All, Contains}
 use Rattle.std.proofs.lemmas.Bool.{cases_lt}
@@ -21,7 +21,7 @@ apart v x = elim (cases_lt v x) [
   ]
 ]
 
--- one group stands at a place
+-- one group is at a place
 pub same_group : (nodes : Nodes) (k : ℕ) (x y : Group) → IsGroup nodes k x → IsGroup nodes k y → x ≡ y
 same_group nodes k x y h l = h.1 ∙ get_or_default nodes.groups.items k x y h.0 ∙ sym l.1
 

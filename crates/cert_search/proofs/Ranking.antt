@@ -1,4 +1,5 @@
--- How high a row stands: a number that rises with each round of a search, up to a bound that the limits set.
+-- How high a row is: a number that rises with each round of a search, up to a bound that the limits
+-- set.
 use Rattle.std.proofs.Common.{◌≡◌, ℕ, suc, ◌+◌, ◌*◌, ◌-◌, ◌≤◌, ◌<◌, List, [], ◌∷◌, length, map, get_or, arith, ap, sym, subst, refl, inl, inr}
 use Rattle.std.specs.Prelude.{All, ◌⊎◌}
 use Rattle.std.specs.List.{sum_by}
@@ -97,7 +98,7 @@ height_within bound Any h = omega arith
 cases : (m n : ℕ) → m ≤ n → (m ≡ n) ⊎ (m < n)
 cases m n h = elim (cases_lt m n) [ inl lt ↦ inr lt | inr ge ↦ inl (omega arith) ]
 
--- a reach is the same as one above it, or stands lower
+-- a reach equals one above it, or is lower
 height_rises : (bound : ℕ) (r s : Reach) → IsWithin bound r → IsAtMost r s → (r ≡ s) ⊎ (height bound r < height bound s)
 height_rises bound No No h k = inl refl
 height_rises bound No (UpTo n) h k = inr (omega arith)
@@ -136,7 +137,7 @@ rank_rises bound (x ∷ r) (y ∷ s) e h k =
       ]
     ]
 
--- offers that rise and do not stand leave less to rise
+-- offers that rise and are not stable leave less to rise
 pub rank_falls : (bound : ℕ) (last next : List Reach) → length last ≡ length next → All (IsWithin bound) last → All (IsWithin bound) next → ((v : ℕ) → IsAtMost (at_row last v) (at_row next v)) → (StandsUnder next last → ⊥)
     → length next * (bound + 1) - rank bound next < length last * (bound + 1) - rank bound last
 rank_falls bound last next same within within2 up moves =

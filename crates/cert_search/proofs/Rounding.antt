@@ -72,11 +72,11 @@ begun nodes search e bests handed all risen rl ol bl hl =
       nothing = e;
     }
 
--- where an offer rose the offers do not stand
+-- if an offer rose the offers are not stable
 pub moves : (old new : List Reach) (risen : List ℕ) → HaveRisen old new [] risen → 0 < length risen → StandsUnder new old → ⊥
 moves old new risen h some under = elim (h.rose (get_or risen 0 0) (Contains-get_or risen 0 0 some)) [ inl b ↦ nothing_in (get_or risen 0 0) b | inr n ↦ n (under (get_or risen 0 0)) ]
 
--- where none rose they do
+-- if none rose they do
 pub stands : (old new : List Reach) (risen : List ℕ) → HaveRisen old new [] risen → length risen ≡ 0 → StandsUnder new old
 stands old new risen h none v = elim (h.listed v) [
   | inl y ↦ absurd (omega (arith, y.1))

@@ -51,7 +51,7 @@ run_ends g target rows row h whole e opens =
       subst (Opens g target) (sym (get_or_push rows row [] (length rows) refl)) opens,
     )
 
--- one row more, told by its changes
+-- one row more, given by its changes
 pub so_far_more : (g : Graph) (target : ℕ) (none : List Reach) (steps pushed : List (Vec Change Global)) (x : Vec Change Global) (last row : List Reach) → pushed ≡ steps ++ x ∷ [] → last ≡ last_by none (items_by steps) → changed last x.items ≡ row
     → SoFar g target (rows_by none (items_by steps)) → length row ≡ g.items → HoldsExactly g (length steps + 1) row → (Opens g target row → ⊥) → SoFar g target (rows_by none (items_by pushed))
 so_far_more g target none steps pushed x last row push e made h whole exact closed =

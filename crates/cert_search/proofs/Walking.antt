@@ -21,7 +21,7 @@ abbrev pub WalksTo : Graph → List (List Reach) → ℕ → ℕ → ℕ → Lis
 WalksTo g rows k v c [] = Unit {0}
 WalksTo g rows k v c (w ∷ ps) = IsLeast (MayTake g (row_of rows (length ps + k)) v c) w × WalksTo g rows k w (c + one_of g w) ps
 
--- the walk may go on: to an anchor where no row is left, else to an issuer that the next row reaches
+-- the walk may go on: to an anchor if no row is left, else to an issuer that the next row reaches
 abbrev pub Leads : Graph → List (List Reach) → ℕ → ℕ → ℕ → Type 0
 Leads g rows zero v c = (a : ℕ) × g.AnchorEdge v a
 Leads g rows (suc k) v c = (w : ℕ) × MayTake g (row_of rows k) v c w
@@ -173,7 +173,7 @@ pub record Walks (g : Graph) (target : ℕ) (rows : List (List Reach)) (left : �
   pub starts : positions ≡ target ∷ issuers
   pub part : Part g target rows left issuers last count
 
--- the walk begins at the target, where the last row opens it and no anchor follows it
+-- the walk begins at the target, if the last row opens it and no anchor follows it
 pub walks_start : (g : Graph) (target : ℕ) (rows : List (List Reach)) (left : ℕ) (positions : List ℕ) → length rows ≡ left → ((a : ℕ) → g.AnchorEdge target a → ⊥)
     → (k : ℕ) × (k + 1 ≡ left) × Opens g target (row_of rows k) → positions ≡ target ∷ [] → Walks g target rows left positions target 0
 walks_start g target rows left positions size alone o e =

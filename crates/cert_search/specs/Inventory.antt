@@ -11,7 +11,7 @@ use Rattle.cert_search.specs.Exact.{HoldsExactly, HoldsAll, HoldsNoElsewhere}
 use Rattle.cert_search.specs.Rows.{IsFixed}
 
 -- The rows of a search to its end: each exact, the last raised from itself. No more rows than
--- items, where there are items; else one row.
+-- items, if there are items; else one row.
 pub record AreAllRows (g : Graph) (rows : List (List Reach)) : Type 0 where
   pub whole : All (λ row. length row ≡ g.items) rows
   pub exact : (k : ℕ) → k < length rows → HoldsExactly g (k + 1) (row_of rows k)

@@ -10,7 +10,7 @@ use Rattle.cert_graph.specs.Steps.{one_of}
 use Rattle.cert_graph.specs.Groups.{IsOffered}
 use Rattle.cert_search.specs.Exact.{HoldsExactly}
 
--- a certificate may go on where a count is met: to an anchor, or to an issuer that a row reaches
+-- a certificate may go on if a count is met: to an anchor, or to an issuer that a row reaches
 -- with it
 abbrev pub GoesOn : Graph → List Reach → ℕ → ℕ → Type 0
 GoesOn g row v c = ((a : ℕ) × g.AnchorEdge v a) ⊎ ((w : ℕ) × g.Fit w × g.Edge v w × Takes (at_row row w) c)

@@ -19,7 +19,7 @@ pub fn find_all_nodes(alloc: Global, nodes: &Nodes) -> Result<Inventory, AllocEr
     ensures holds { IfOk result (IsTrueInventory (graph_of nodes.now)) }
     ensures exact { IfOk result (λ inventory. HasExactTable (graph_of nodes.now) (shared_rows (graph_of nodes.now) inventory)) }
     ensures short { IfOk result (λ inventory. All (IsShortVerdict (graph_of nodes.now)) inventory.verdicts.items) }
-    // at least one row, and no more rows than items where there are items
+    // at least one row, and no more rows than items if there are items
     ensures bounded { IfOk result (λ inventory. (1 ≤ length inventory.steps.items) × (length inventory.steps.items ≤ max 1 (graph_of nodes.now).items)) }
 {
     let steps = all_rows(alloc, nodes)?;

@@ -1,4 +1,4 @@
-//! One round of the search: a row is raised from the one before it, where an offer rose.
+//! One round of the search: a row is raised from the one before it, if an offer rose.
 
 ghost use Rattle.std.specs.Prelude.{◌≡◌, ℕ, ◌<◌, ◌⊎◌, ◌↔◌, [], length, map, replicate, All, Contains, IfOk, IfSome, IsTrue, OnOk, List};
 ghost use Rattle.cert_graph.specs.declared.reach.Reach.TheVariants.{No};
@@ -244,7 +244,7 @@ pub(crate) fn rise(
     Ok(changes)
 }
 
-/// Whether an offer rose in the last round: where none did, the row is its own successor.
+/// Whether an offer rose in the last round: if none did, the row is its own successor.
 pub(crate) fn has_risen(search: &Rising) -> bool
     ensures { IsTrue result ↔ (0 < length search.now.risen.items) }
 {

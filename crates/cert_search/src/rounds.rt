@@ -32,7 +32,7 @@ fn opens(usable: bool, offers: &[Reach], target: usize) -> bool
 /// Rows raised from none, up to the first that gives the target a path or is its own successor.
 ///
 /// One row is kept, and of each one where it differs from the one before it. The groups of each
-/// item are noted only where a second round follows.
+/// item are noted only if a second round follows.
 pub(crate) fn rows_to(alloc: Global, nodes: &Nodes, target: usize) -> Result<Found, AllocError>
     ensures { IfOk result (IsFound (graph_of nodes.now) target) }
 {

@@ -40,7 +40,7 @@ tag_below Uri = lit< tt
 tag_below IpAddress = lit< tt
 tag_below RegisteredId = lit< tt
 
--- a test of octets that tells ASCII
+-- a test of octets that finds ASCII
 pub ascii_decides : (b : Bool) (s : List ℕ) → MatchBool b (IsAscii s) (IsNotAscii s) → IsTrue b ↔ IsAscii s
 ascii_decides true s m = (λ h. m, λ h. refl)
 ascii_decides false s m = (λ h. absurd (false≢true h), λ a. let x = a m.0 in let y = m.1 in absurd (omega arith))

@@ -1,4 +1,4 @@
--- What is processed where something is demanded.
+-- What is processed if something is demanded.
 use Rattle.std.specs.Prelude.{◌↔◌}
 use Rattle.std.proofs.Common.{◌≡◌, refl, ℕ, true, List, [], ◌∷◌, inl, inr, lit<}
 use Rattle.cert_model.specs.Fields.{Identifier, Extension}
@@ -12,7 +12,8 @@ use Rattle.cert_serving.specs.Serving.{subject_alt_name}
 use Rattle.cert_serving.specs.Demanding.{IsProcessedFor}
 use Rattle.cert_serving.specs.Examples.{star_value, of_purpose, of_host, critical}
 
--- a certificate whose one extension is critical, and isn't judged by itself, is usable where the caller processes it
+-- a certificate whose one extension is critical, and isn't judged by itself, is usable if the
+-- caller processes it
 one_critical : (P : Identifier → Type 0) (identifier : Identifier) (value : List ℕ) → (identifier ≡ basic_constraints → ⊥) → (identifier ≡ key_usage → ⊥) → IsUsable P in_june (critical identifier value) ↔ P identifier
 unfolding EachUnder IsProcessed
 one_critical P identifier value not_basic not_usage =

@@ -16,7 +16,7 @@ use Rattle.cert_judge.proofs.StandingFacts.{set_cases, set_left, set_right}
 use Rattle.cert_serving.specs.Demanding.{Demanded, IsPermitted, PermitsOf}
 use Rattle.cert_serving.specs.Refusing.{IsIn, HasRefused}
 
--- whether octets stand in a set, and a key of these octets
+-- whether octets are in a set, and a key of these octets
 abbrev pub is_in : BTreeSet (Bor (List ℕ)) → List ℕ → Bool
 is_in set octets = contains_by (λ k. slice_cmp nat_cmp octets k.now) set
 

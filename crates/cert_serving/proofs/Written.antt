@@ -60,7 +60,7 @@ name_more host one gs = (
   λ h. elim h [ inl x ↦ (x.0, Contains-append_left gs (one ∷ []) x.0 x.1, x.2) | inr k ↦ (one, Contains-push gs one, k) ],
 )
 
--- what `next_name` answers
+-- what `next_name` returns
 abbrev pub IsNext : List ℕ → GeneralName → List ℕ → Type 0
 IsNext rest one behind = (g : GeneralName) (r : List ℕ) → IsGeneralName g → rest ≡ general_name_octets g ++ r → (one ≡ g) × (behind ≡ r)
 

@@ -39,8 +39,8 @@ abbrev pub PermitsOf : Demanded → List (List ℕ) → (List ℕ → Type 0) �
 PermitsOf d items P = (octets : List ℕ) → P octets ↔ (Contains items octets → IsPermitted d octets)
 
 -- extensions of an identifier are processed in an item, so that they may be critical there
--- (RFC 5280, 6.1.4, o, and 6.1.5, f): extKeyUsage in each item, where a purpose is demanded, and
--- subjectAltName in the target, where a host is
+-- (RFC 5280, 6.1.4, o, and 6.1.5, f): extKeyUsage in each item, if a purpose is demanded, and
+-- subjectAltName in the target, if a host is
 abbrev pub IsProcessedFor : Demanded → List ℕ → Identifier → Type 0
 IsProcessedFor d octets identifier = (IsSome d.purpose × (identifier ≡ extended_key_usage)) ⊎ (IsSome d.host × (octets ≡ d.target) × (identifier ≡ subject_alt_name))
 

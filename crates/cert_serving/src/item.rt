@@ -70,7 +70,7 @@ pub fn item_serves(alloc: Global, octets: &[u8], host: &Host<'_>) -> Result<Answ
     }
 }
 
-/// Whether an item is no certificate, or one that meets the demands. It is read only where
+/// Whether an item is no certificate, or one that meets the demands. It is read only if
 /// something may be demanded of it.
 pub(crate) fn is_permitted(
     alloc: Global,

@@ -41,9 +41,9 @@ pub fn examples_of_hosts()
     ensures two { (host : Asked) → ¬ Serves host (alternative star_value ∷ alternative star_value ∷ []) }
 {}
 
-/// Of what is processed: a critical extKeyUsage is usable where a purpose is demanded, and not
-/// where a host alone is; a critical subjectAltName is usable where a host is demanded, in the
-/// target and not in an issuer, and not where a purpose alone is.
+/// Of what is processed: a critical extKeyUsage is usable if a purpose is demanded, and not
+/// if a host alone is; a critical subjectAltName is usable if a host is demanded, in the
+/// target and not in an issuer, and not if a purpose alone is.
 pub fn examples_of_processing()
     ensures purpose { IsUsable (IsProcessedFor of_purpose (2 ∷ [])) in_june (critical extended_key_usage for_servers) }
     ensures no_purpose { ¬ IsUsable (IsProcessedFor of_host (1 ∷ [])) in_june (critical extended_key_usage for_servers) }

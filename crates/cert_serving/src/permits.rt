@@ -17,9 +17,9 @@ use std::alloc::Global;
 use std::collections::BTreeSet;
 
 /// Which items of a question meet demands: those that are no certificate, and the certificates that
-/// allow the purpose and, where they are the target, serve the host. What is so looked at is
-/// processed: extKeyUsage in each item, where a purpose is demanded, and subjectAltName in the
-/// target, where a host is. So these may be critical there, as RFC 3161, 2.3, wants of time
+/// allow the purpose and, if they are the target, serve the host. What is so looked at is
+/// processed: extKeyUsage in each item, if a purpose is demanded, and subjectAltName in the
+/// target, if a host is. So these may be critical there, as RFC 3161, 2.3, wants of time
 /// stamping.
 ///
 /// What an item is permitted is worked out once, by `new`; `is_permitted` looks it up by its
@@ -29,7 +29,7 @@ pub struct Permits<'a> {
     refused: BTreeSet<&'a [u8]>,
     /// A purpose is demanded.
     has_purpose: bool,
-    /// The octets of the target, where a host is demanded.
+    /// The octets of the target, if a host is demanded.
     host_target: Option<&'a [u8]>,
 }
 
@@ -60,7 +60,7 @@ fn has_purpose(demands: &Demands<'_>) -> bool
     }
 }
 
-/// The octets of the target, where a host is demanded.
+/// The octets of the target, if a host is demanded.
 fn host_target<'a>(demands: &Demands<'a>) -> Option<&'a [u8]>
     ensures found { IfSome result (λ t. IsSome (demands_view demands.now).host × (t.now ≡ (demands_view demands.now).target)) }
     ensures only { IsNone result → IsSome (demands_view demands.now).host → ⊥ }
@@ -72,7 +72,7 @@ fn host_target<'a>(demands: &Demands<'a>) -> Option<&'a [u8]>
 }
 
 impl<'a> Permits<'a> {
-    /// Works out which items meet the demands. Each is read at most once, and only where something
+    /// Works out which items meet the demands. Each is read at most once, and only if something
     /// is demanded of it: with a host alone, the items whose octets are the target's. Time and
     /// memory are linear in the items that are read, apart from the look-ups in the set of those
     /// refused.

@@ -69,7 +69,7 @@ first_feed text k lt is first =
       λ j d below. let b : j < k = omega (arith, long, below) in subst IsOther (sym (get_or-take k text j d b)) (first j d b),
     )
 
--- the octets behind it, as a slice takes them
+-- the octets after it, as a slice takes them
 pub next_found : (text : List ℕ) (k : ℕ) → k < length text → ((d : ℕ) → get_or text k d ≡ 10) → ((j d : ℕ) → j < k → get_or text j d ≢ 10)
     → text ≡ take k text ++ 10 ∷ take (length text - (k + 1)) (drop (k + 1) text)
 next_found text k lt is first =
@@ -84,7 +84,7 @@ tail : {X : Type 0} → List X → List X
 tail [] = []
 tail (x ∷ xs) = xs
 
--- what two texts without LF stand before, where LF is next in both
+-- two fronts without LF of one text, LF coming next, are equal, and so is what comes after
 seam : (k l x y : List ℕ) → HasNoLineFeed k → HasNoLineFeed l → k ++ 10 ∷ x ≡ l ++ 10 ∷ y → (k ≡ l) × (x ≡ y)
 unfolding head tail
 seam [] [] x y p q e = (refl, ap tail e)

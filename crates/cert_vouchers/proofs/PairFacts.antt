@@ -1,4 +1,4 @@
--- Lines that tell pairs.
+-- Lines that hold pairs.
 use Rattle.std.proofs.Common.{◌≡◌, ◌∙◌, sym, ap, subst, ℕ, List, [], ◌∷◌, ◌++◌, length, take, drop, Result, Ok, Err, OnOk, false}
 use Rattle.std.specs.Result.{is_err}
 use Rattle.std.proofs.Math.Seq.{take-append_seam, drop-append_seam}
@@ -25,7 +25,7 @@ tail : List ℕ → List ℕ
 tail [] = []
 tail (x ∷ xs) = xs
 
--- what a line that tells a pair has at its places
+-- what a line that holds a pair has at its places
 pub record Parts (first : List ℕ) (between : ℕ) (second key item : List ℕ) : Type 0 where
   pub between_is : between ≡ 32
   pub key_is : decode_sized first 32 ≡ Ok key

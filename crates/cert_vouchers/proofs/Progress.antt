@@ -42,7 +42,7 @@ too_long old octets none long = λ text s. bad_long (text ++ octets) s.ended (ol
 
 -- LF
 
--- one pair more, where the line tells one
+-- one pair more, if the line holds one
 abbrev pub OneMore : Vouchers → Vouchers → List ℕ → Type 0
 OneMore old new line = (key item : List ℕ) → HasPair new.pairs key item ↔ (HasPair old.pairs key item ⊎ TellsPair line key item)
 

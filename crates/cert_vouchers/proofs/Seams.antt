@@ -33,7 +33,7 @@ line_ended text ended line p = record {
   behind = λ k d lt. absurd (omega arith);
 }
 
--- lines behind it
+-- lines after it
 joined_then : (ended more : List (List ℕ)) (last : List ℕ) → joined ended [] ++ joined more last ≡ joined (ended ++ more) last
 joined_then [] more last = refl
 joined_then (x ∷ ended) more last =

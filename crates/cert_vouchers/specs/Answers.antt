@@ -1,4 +1,4 @@
--- What `read_vouchers` answers, in the words of `VoucherFile`.
+-- What `read_vouchers` returns, in the words of `VoucherFile`.
 use Rattle.std.specs.Prelude.{◌≡◌, ◌↔◌, ℕ, List, Result, Ok, Err}
 use Rattle.std.specs.List.{AllByRecursion}
 use Rattle.cert_vouchers.specs.declared.vouchers.Vouchers.{Vouchers}

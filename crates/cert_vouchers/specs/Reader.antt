@@ -41,7 +41,7 @@ HoldsText (Ok reading) text = ReadsTo reading text
 HoldsText (Err error) text = IsRefused text error
 
 -- the reader holds what is in the text; of one that has a bad line, the number of the first. One that lacked memory may have taken any text, and
--- answers `OutOfMemory`
+-- returns `OutOfMemory`
 pub record HasTaken (reader : VoucherReader) (text : List ℕ) : Type 0 where
   pub held : HoldsText reader.reading text
 
@@ -62,7 +62,7 @@ TakesPieces reader (piece ∷ pieces) last = (next : VoucherReader) × TakesPiec
 abbrev pub Finishes : VoucherReader → Result Vouchers VoucherError → Type 0
 Finishes reader result = (text : List ℕ) → HasTaken reader text → AnswersVouchers text result
 
--- two answers have the same pairs, or the same first bad line, unless memory was refused
+-- two answers have equal pairs, or one first bad line, unless memory was refused
 abbrev pub Agree : Result Vouchers VoucherError → Result Vouchers VoucherError → Type 0
 Agree (Ok vouchers) (Ok others) = (key item : List ℕ) → HasPair vouchers.pairs key item ↔ HasPair others.pairs key item
 Agree (Ok vouchers) (Err (BadLine n)) = ⊥

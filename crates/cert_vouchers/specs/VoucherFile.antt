@@ -1,4 +1,5 @@
--- What stands in a voucher file: lines, each empty or with a key's digest and an item's, in hex. This page is to be believed.
+-- What is in a voucher file: lines, each empty or with a key's digest and an item's, in hex. This
+-- page is to be believed.
 use Rattle.std.specs.Prelude.{◌≡◌, ◌≢◌, ℕ, ◌+◌, ◌==◌, if◌then◌else◌, List, [], ◌∷◌, ◌++◌, length, map, All, Ok, ◌⊎◌}
 use Rattle.std.specs.List.{flat_map, AllByRecursion}
 use Rattle.hex.specs.Hex.{decode_sized}
@@ -17,7 +18,7 @@ space = 32
 abbrev pub HasNoLineFeed : List ℕ → Type 0
 HasNoLineFeed octets = All (λ octet. octet ≢ line_feed) octets
 
--- the text is these lines, each ended by LF, and behind them one that nothing ends
+-- the text is these lines, each ended by LF, and after them one that nothing ends
 pub record AreLines (text : List ℕ) (ended : List (List ℕ)) (last : List ℕ) : Type 0 where
   pub whole : text ≡ flat_map (λ line. line ++ line_feed ∷ []) ended ++ last
   pub each : AllByRecursion HasNoLineFeed ended
@@ -33,7 +34,7 @@ without_return (octet ∷ next ∷ octets) = octet ∷ without_return (next ∷ 
 abbrev pub lines_of : List (List ℕ) → List ℕ → List (List ℕ)
 lines_of ended last = map without_return ended ++ last ∷ []
 
--- a line that tells a pair: 64 hex digits in either case of letters, a space, and 64 hex digits
+-- a line that holds a pair: 64 hex digits in either case of letters, a space, and 64 hex digits
 pub record TellsPair (line key item : List ℕ) : Type 0 where
   pub first : List ℕ
   pub second : List ℕ
@@ -41,16 +42,16 @@ pub record TellsPair (line key item : List ℕ) : Type 0 where
   pub key_is : decode_sized first 32 ≡ Ok key
   pub item_is : decode_sized second 32 ≡ Ok item
 
--- a line that may stand in a voucher file
+-- a line that may be in a voucher file
 abbrev pub IsWell : List ℕ → Type 0
 IsWell line = (line ≡ []) ⊎ ((key item : List ℕ) × TellsPair line key item)
 
--- one of the lines tells a pair
+-- one of the lines holds a pair
 abbrev pub TellPair : List (List ℕ) → List ℕ → List ℕ → Type 0
 TellPair [] key item = ⊥
 TellPair (line ∷ lines) key item = TellsPair line key item ⊎ TellPair lines key item
 
--- the first line that may not stand there, counted from 1
+-- the first line that may not be there, counted from 1
 pub record IsFirstBad (lines : List (List ℕ)) (number : ℕ) : Type 0 where
   pub before : List (List ℕ)
   pub line : List ℕ

@@ -31,12 +31,12 @@ VouchesBy pairs key item = HasPair pairs (sha256 key) (sha256 item)
 abbrev pub ArePlaced : List (Bor (List ℕ)) → ℕ → BTreeMap (List ℕ) ℕ → Type 0
 ArePlaced keys k m = (d : List ℕ) (n : ℕ) → (mapped.get (slice_cmp nat_cmp) m d ≡ Some n) ↔ ((n < k) × ((key : Bor (List ℕ)) → sha256 (slice_index_or keys n key).now ≡ d))
 
--- A row with one place more where something holds.
+-- A row with one place more if something holds.
 pub record IsMore (old new : List ℕ) (P : Type 0) (v : ℕ) : Type 0 where
   pub exact : (u : ℕ) → Contains new u ↔ (Contains old u ⊎ ((u ≡ v) × P))
   pub ascends : IsStrictlyIncreasing old → ((u : ℕ) → Contains old u → u ≤ v) → IsStrictlyIncreasing new
 
--- the same of each row
+-- rows of which each has one place more if something holds of it
 pub record Puts (old new : List (Vec ℕ Global)) (P : ℕ → Type 0) (v : ℕ) : Type 0 where
   pub count : length new ≡ length old
   pub each : (k : ℕ) (r : Vec ℕ Global) → k < length old → IsMore (slice_index_or old k r).items (slice_index_or new k r).items (P k) v

@@ -18,7 +18,7 @@ fn line_end(text: &[u8]) -> Option<usize>
     None
 }
 
-/// The first line that ends at LF, and what stands behind that.
+/// The first line that ends at LF, and what comes after that.
 pub(crate) fn next_line(text: &[u8]) -> Option<(&[u8], &[u8])>
     ensures found { IfSome result (λ r. text.now ≡ r.0.now ++ line_feed ∷ r.1.now) }
     ensures first { IfSome result (λ r. HasNoLineFeed r.0.now) }

@@ -44,7 +44,7 @@ pub(crate) fn has_pair<D: Digests>(pairs: &Pairs, digests: &D, key: &[u8], item:
     }
 }
 
-/// The places of keys by their digests; none where two have the same digest.
+/// The places of keys by their digests; none if two have one digest.
 fn places_of<D: Digests>(
     alloc: Global,
     digests: &D,
@@ -137,8 +137,8 @@ fn put_item<D: Digests>(
     put_keys(rows, places, keys, place)
 }
 
-/// For each key the chosen items that it vouches for, in ascending order; none where two keys have
-/// the same digest. Each key and each chosen item is digested once, and none where there is no key
+/// For each key the chosen items that it vouches for, in ascending order; none if two keys have
+/// the same digest. Each key and each chosen item is digested once, and none if there is no key
 /// or no pair.
 pub(crate) fn rows_of<D: Digests>(
     alloc: Global,

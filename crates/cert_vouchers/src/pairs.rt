@@ -16,7 +16,7 @@ fn digest_of(digits: &[u8]) -> Option<[u8; 32]>
     <[u8; 32] as FromHex>::from_hex(digits).ok()
 }
 
-/// The digests of a key and of an item, where the line tells them.
+/// The digests of a key and of an item, if the line holds them.
 pub(crate) fn pair_of(line: &[u8]) -> Option<([u8; 32], [u8; 32])>
     ensures found { IfSome result (λ pair. TellsPair line.now pair.0 pair.1) }
     ensures only { (key item : List ℕ) → TellsPair line.now key item → IsSomeAnd result (λ pair. (pair.0 ≡ key) × (pair.1 ≡ item)) }

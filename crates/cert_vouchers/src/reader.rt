@@ -31,7 +31,7 @@ impl VoucherReader {
 
     /// Takes the next octets of the text, any number of them. A bad line is reported by `finish`.
     ///
-    /// `OutOfMemory` where memory was refused before any bad line, and at each later call.
+    /// `OutOfMemory` if memory was refused before any bad line, and at each later call.
     pub fn feed(&mut self, piece: &[u8]) -> Result<(), OutOfMemory>
         ensures takes { TakesPiece self.old piece.now self.new }
         ensures refused { IsErr result ↔ HasFailed self.new }
@@ -62,7 +62,7 @@ impl VoucherReader {
     ///
     /// # Errors
     ///
-    /// Those of `read_vouchers`; `OutOfMemory` also where a `feed` answered it.
+    /// Those of `read_vouchers`; `OutOfMemory` also if a `feed` returned it.
     pub fn finish(self) -> Result<Vouchers, VoucherError>
         ensures answers { Finishes self result }
         ensures failed { HasFailed self → IsErrOf result VoucherError.OutOfMemory }

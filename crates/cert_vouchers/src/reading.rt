@@ -27,8 +27,8 @@ pub enum VoucherError {
 /// the digest of a key element and the digest of an item (SHA-256, 64 hex digits each, in either case of letters) with a space between
 /// them.
 ///
-/// `BadLine` with the number of the first line that is of neither form, counted from 1; `OutOfMemory` where a pair found no room, which
-/// a bad line behind it doesn't change.
+/// `BadLine` with the number of the first line that is of neither form, counted from 1;
+/// `OutOfMemory` if a pair found no room, which a bad line after it doesn't change.
 pub fn read_vouchers(alloc: Global, text: &[u8]) -> Result<Vouchers, VoucherError>
     ensures { AnswersVouchers text.now result }
 {
@@ -120,7 +120,7 @@ impl Reading {
     }
 }
 
-/// The pair of a line, where it tells one, beside the others.
+/// The pair of a line, if it holds one, beside the others.
 fn push_line(vouchers: &mut Vouchers, line: &[u8], number: usize) -> Result<(), VoucherError>
     ensures well { OnOk result (IsWell line.now) }
     ensures pairs { OnOk result ((key item : List ℕ) → HasPair vouchers.new.pairs key item ↔ (HasPair vouchers.old.pairs key item ⊎ TellsPair line.now key item)) }

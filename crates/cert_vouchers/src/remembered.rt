@@ -78,7 +78,7 @@ impl<'a> Memory<'a> {
         }
     }
 
-    /// The digest of a text, where it is the one at a place.
+    /// The digest of a text, if it is the one at a place.
     fn digest_at(&mut self, place: usize, text: &[u8]) -> Option<[u8; 32]>
         ensures { IfSome result (λ d. d ≡ sha256 text.now) }
     {
@@ -106,7 +106,7 @@ impl<'a> Memory<'a> {
         self.last = place;
     }
 
-    /// The digest of a known text, where it is the one that was found last or the one that was
+    /// The digest of a known text, if it is the one that was found last or the one that was
     /// asked for after that.
     fn guess(&mut self, text: &[u8]) -> Option<[u8; 32]>
         ensures { IfSome result (λ d. d ≡ sha256 text.now) }
@@ -156,14 +156,14 @@ fn digest_in(memory: &RefCell<Memory<'_>>, text: &[u8]) -> [u8; 32]
     }
 }
 
-/// Vouchers with a memory: they vouch for the same, and hash a text that they were told of at most
-/// once, once it is asked for, where all texts are told before the first question.
+/// Vouchers with a memory: they vouch for what the vouchers do, and hash an expected text at most
+/// once, once it is asked for, if all texts are expected before the first question.
 ///
-/// The first question after a text was told sorts all that were told, compared whole. Each question
-/// takes as many comparisons of texts as a look-up in a sorted map, and two where it goes over the
-/// same items as before, in their order. A text that wasn't told is hashed each time; nothing else
-/// depends on what was told. `vouched_by_each` asks by each item's digest if its keys are different,
-/// and otherwise for each pair of a key and a chosen item.
+/// The first question after a text was expected sorts all expected texts, compared whole. Each
+/// question takes as many comparisons of texts as a look-up in a sorted map, and two if it goes
+/// over the same items as before, in their order. A text that wasn't expected is hashed each time;
+/// nothing else depends on which texts were expected. `vouched_by_each` asks by each item's digest
+/// if its keys are different, and otherwise for each pair of a key and a chosen item.
 #[derive(Drop)]
 pub struct RememberedVouchers<'a> {
     vouchers: &'a Vouchers,
@@ -172,7 +172,7 @@ pub struct RememberedVouchers<'a> {
 }
 
 impl<'a> RememberedVouchers<'a> {
-    /// Vouchers that were told of no text.
+    /// Vouchers without an expected text.
     pub fn new(alloc: Global, vouchers: &'a Vouchers) -> RememberedVouchers<'a>
         ensures { result.vouchers.now ≡ vouchers.now }
     {
@@ -183,14 +183,14 @@ impl<'a> RememberedVouchers<'a> {
         }
     }
 
-    /// Tells of a key element that may be asked for. It isn't remembered where memory is refused.
+    /// Expects a key element, which may be asked for. It isn't remembered if memory is refused.
     pub fn expect_key(&mut self, key: &'a [u8])
         ensures { self.new.vouchers.now ≡ self.old.vouchers.now }
     {
         self.keys.get_mut().add(key);
     }
 
-    /// Tells of an item that may be asked for. It isn't remembered where memory is refused.
+    /// Expects an item, which may be asked for. It isn't remembered if memory is refused.
     pub fn expect_item(&mut self, item: &'a [u8])
         ensures { self.new.vouchers.now ≡ self.old.vouchers.now }
     {

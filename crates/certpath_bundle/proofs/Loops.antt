@@ -16,7 +16,7 @@ lines_more f xs k d first text more lt before is =
 pub lines_all : {X : Type 0} (f : X → List ℕ) (xs : List X) (k : ℕ) (first text : List ℕ) → length xs ≤ k → text ≡ first ++ flat_map f (take k xs) → text ≡ first ++ flat_map f xs
 lines_all f xs k first text le before = before ∙ ap (λ l. first ++ flat_map f l) (take_all k xs le)
 
--- texts of what values tell
+-- texts of what values hold
 pub lines_of_map : {X Y : Type 0} (f : Y → List ℕ) (v : X → Y) (xs : List X) → flat_map (λ x. f (v x)) xs ≡ flat_map f (map v xs)
 lines_of_map f v [] = refl
 lines_of_map f v (x ∷ xs) = ap (λ z. f (v x) ++ z) (lines_of_map f v xs)
@@ -74,7 +74,7 @@ pub five_appended : (first a b c d e one two three four five : List ℕ) → one
 five_appended first a b c d e one two three four five p q r s t =
     t ∙ ap (λ z. z ++ e) s ∙ append_assoc three d e ∙ three_appended first a b (c ++ (d ++ e)) one two (three ++ (d ++ e)) p q (ap (λ z. z ++ (d ++ e)) r ∙ append_assoc two c (d ++ e))
 
--- what `push_str` says, where it returns `Ok`
+-- what `push_str` says, if it returns `Ok`
 pub on_push : {T E : Type 0} (r : Result T E) (new done left : List ℕ) → new ≡ (if is_ok r then done else left) → OnOk r (new ≡ done)
 on_push (Ok x) new done left e = e
 on_push (Err x) new done left e = tt

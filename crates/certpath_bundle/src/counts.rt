@@ -18,7 +18,7 @@ pub(crate) struct Counts {
     pub(crate) left_out: usize,
 }
 
-/// The sum; refused as memory is where it doesn't fit, which needs more rows than memory has.
+/// The sum; refused as memory is if it doesn't fit, which needs more rows than memory has.
 pub(crate) fn sum_of(one: usize, other: usize) -> Result<usize, AllocError>
     ensures { IfOk result (λ sum. sum ≡ one + other) }
 {

@@ -80,7 +80,7 @@ fn push_left_out(
     text.push_str("; left out\n")
 }
 
-/// Appends the line of a row, where it has one.
+/// Appends the line of a row, if it has one.
 fn push_row(text: &mut String, name: &str, row: Row<'_>) -> Result<(), AllocError>
     ensures { OnOk result (string_bytes text.new ≡ string_bytes text.old ++ row_line name.now (row_view row.entry)) }
 {

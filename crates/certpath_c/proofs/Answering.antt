@@ -89,7 +89,7 @@ one_table width (x ∷ xs) (y ∷ ys) some v w f g e =
     let tail : xs ≡ ys = one_table width xs ys some v.1 w.1 f.1 g.1 (same_backs _ _ _ _ h long) in
     ap (λ r. r ∷ xs) head ∙ ap (λ rs. y ∷ rs) tail
 
--- two answers that are the same numbers are adequate alike
+-- two answers of equal numbers are adequate alike
 same_adequate : (g : Graph) (target width : ℕ) (row : AnswerRow) (positions entries : List ℕ) (answer other : Answer) → (IsAdequate g target answer → answer ≡ NoTarget ⊎ (0 < width)) → IsAnswerOf width row positions entries answer
     → IsAnswerOf width row positions entries other → IsAdequate g target answer → IsAdequate g target other
 same_adequate g target width row positions entries (Path ps a t) (Path qs b u) some is is' h =
@@ -208,7 +208,8 @@ pub found_given : (r : JudgingContext) (octets anchors : List (List ℕ)) (targe
 found_given r octets anchors target answer row h is_row fits =
     record { is_row = is_row; positions_are = refl; entries_are = refl; whole = adequate_whole r octets h.0 h.1 target answer h.2 h.4; fits = fits }
 
--- what was found of some items is adequate by other rules that vouch alike, and as another answer of the same numbers
+-- what was found of some items is adequate by other rules that vouch alike, and as another answer
+-- of equal numbers
 carried : (r s : JudgingContext) (octets anchors : List (List ℕ)) (target : ℕ) (row : AnswerRow) (answer other : Answer) → ((items : List Item) → VouchAlike r s items) → IsRowOf answer row → FitsAnswer answer
     → IsAnswerOf (length octets) row (positions_of answer) (answer_entries answer) other → HoldsOfItems r octets anchors (λ g. IsAdequate g target answer) → HoldsOfItems s octets anchors (λ g. IsAdequate g target other)
 carried r s octets anchors target row answer other alike is_row fits is h =

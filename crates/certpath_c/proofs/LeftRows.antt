@@ -1,4 +1,4 @@
--- The rows of what is left out so far, and rows seen through what they tell.
+-- The rows of what is left out so far, and rows seen through what they hold.
 use Rattle.std.proofs.Common.{◌≡◌, ◌∙◌, refl, sym, ap, ℕ, ◌+◌, ◌<◌, ◌≤◌, Bool, cond, add-zero, List, [], ◌∷◌, ◌++◌, length, map, drop, get_or, append_assoc}
 use Rattle.std.specs.Prelude.{◌||◌}
 use Rattle.std.specs.List.{list_any, count_by, fold}

@@ -1,4 +1,4 @@
--- JudgingContext by vouchers and permits that are the same.
+-- JudgingContext by vouchers and permits that are equal.
 use Rattle.std.proofs.Common.{◌≡◌, subst, ℕ, List}
 use Rattle.cert_graph.specs.Graph.{Graph}
 use Rattle.cert_judge.specs.declared.policy.Policy.{Policy}

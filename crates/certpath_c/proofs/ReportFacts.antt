@@ -1,4 +1,4 @@
--- What was written of octets in memory, and what is answered of it.
+-- What was written of octets in memory, and what is returned for it.
 use Rattle.std.specs.Prelude.{◌⊎◌, IfOk, IsErrOf, String, string_bytes}
 use Rattle.std.specs.Io.KnownBytes.{Consumes, IsAtEnd}
 use Rattle.std.specs.declared.alloc.Global.{Global}

@@ -41,7 +41,7 @@ one_more spans items k offset item w e =
           ∙ ap (λ d. offset + length (concat d)) (sym split) ∙ w.sizes;
     }
 
--- what was fed to a bundle is behind its stream
+-- what was fed to a bundle is at the end of its stream
 pub fed : {A E : Type 0} (r : Result A E) (held held' : Held) (front octets : List ℕ) → OnOk r ((stream : List ℕ) → StandsFor held stream → StandsFor held' (stream ++ octets)) → is_err r ≡ false → StandsFor held front
     → StandsFor held' (front ++ octets)
 fed (Ok x) held held' front octets ok no_err s = ok front s

@@ -82,7 +82,7 @@ no_rows_back width front others long some none (row ∷ rows) are =
     let same : length (map reach_number row) ≡ length front = omega (arith, mapped, here, long) in
     none rows (record { entries_are = same_backs (map reach_number row) (rows_entries rows) front others are.entries_are same; whole = are.whole.1; fit = are.fit.1 })
 
--- the rows and what is left are all entries; and where what is left is no rows, neither are all
+-- the rows and what is left are all entries; and if what is left is no rows, neither are all
 pub record TableSoFar (width : ℕ) (entries rest : List ℕ) (rows : List (List Reach)) : Type 0 where
   pub all : rows_entries rows ++ rest ≡ entries
   pub whole : AllByRecursion (IsWide width) rows

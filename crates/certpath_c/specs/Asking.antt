@@ -1,4 +1,4 @@
--- What `certpath_questions` answers.
+-- What `certpath_questions` returns.
 use Rattle.std.specs.Prelude.{◌≡◌, ◌⊎◌, ℕ, ℤ, Bool, true, false, List, map, length}
 use Rattle.cert_framing.specs.declared.ending.End.{End}
 use Rattle.cert_framing.specs.Framing.{IsFraming}
@@ -27,7 +27,7 @@ pub record SplitsInto (octets : List ℕ) (limit : ℕ) (classed : List Item) : 
   pub framing : IsFraming limit octets items end
   pub are_classed : AreClassed items classed
 
--- all questions of the items and anchors, put into the buffer, or not, where they don't fit
+-- all questions of the items and anchors, put into the buffer, or not, if they don't fit
 pub record AreAsked (bundle anchors : List ℕ) (limit : ℕ) (rows rows' : List QuestionRow) (count' : ℕ) (fits : Bool) : Type 0 where
   pub classed : List Item
   pub classed_anchors : List Item

@@ -1,4 +1,4 @@
--- What `certpath_check` answers.
+-- What `certpath_check` returns.
 use Rattle.std.specs.Prelude.{◌≡◌, ◌⊎◌, ◌↔◌, ℕ, ℤ, Bool, IsTrue, cond, List, length}
 use Rattle.cert_framing.specs.Framing.{IsFraming}
 use Rattle.cert_framing.specs.Held.{Framed}

@@ -1,4 +1,4 @@
--- What `certpath_classes` answers.
+-- What `certpath_classes` returns.
 use Rattle.std.specs.Prelude.{◌≡◌, ◌⊎◌, ℕ, ℤ, Bool, true, false, List, [], ◌∷◌, length}
 use Rattle.cert_framing.specs.declared.ending.End.{End}
 use Rattle.cert_framing.specs.Framing.{IsFraming}
@@ -13,7 +13,8 @@ AreNumbers [] (number ∷ numbers) = ⊥
 AreNumbers (item ∷ items) [] = ⊥
 AreNumbers (item ∷ items) (number ∷ numbers) = IsClassed item number × AreNumbers items numbers
 
--- the octets were cut into items, and the numbers of these put into the buffer, or not, where they don't fit
+-- the octets were cut into items, and the numbers of these put into the buffer, or not, if they
+-- don't fit
 pub record AreAllClassed (octets : List ℕ) (limit : ℕ) (classes classes' : List ℕ) (count' : ℕ) (fits : Bool) : Type 0 where
   pub items : List (List ℕ)
   pub end : End

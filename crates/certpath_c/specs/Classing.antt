@@ -1,4 +1,4 @@
--- What `certpath_class` answers.
+-- What `certpath_class` returns.
 use Rattle.std.specs.Prelude.{◌≡◌, ◌⊎◌, ℕ, ℤ, List}
 use Rattle.cert_model.specs.Class.{Class, certificate, list, other, IsClassOf}
 use Rattle.certpath_c.specs.Status.{done, out_of_memory}

@@ -1,4 +1,4 @@
--- What `certpath_item` answers.
+-- What `certpath_item` returns.
 use Rattle.std.specs.Prelude.{◌≡◌, ◌⊎◌, ◌++◌, ℕ, ℤ, pos, Bool, true, false, List, [], length, Option, Some, None, option_copied, replicate}
 use Rattle.cert_model.specs.Class.{Class, certificate, list, other, IsClassOf}
 use Rattle.cert_model.specs.KeyIds.{IsAuthorityKeyId, IsSubjectKeyId}
@@ -15,7 +15,7 @@ use Rattle.certpath_c.specs.Times.{IsValidityOf}
 use Rattle.certpath_c.specs.Status.{done, out_of_memory, too_small}
 use Rattle.certpath_c.specs.Writing.{Puts}
 
--- the octets of each field, where an item has it
+-- the octets of each field, if an item has it
 pub record Fields : Type 0 where
   pub issuer : Option (List ℕ)
   pub subject : Option (List ℕ)
@@ -61,7 +61,7 @@ fields_octets f =
     (((((octets_in f.issuer ++ octets_in f.subject) ++ octets_in f.key) ++ octets_in f.serial)
     ++ octets_in f.algorithm) ++ octets_in f.subject_key_id) ++ octets_in f.authority_key_id
 
--- the SHA-256 digest of a field; 32 zeros where it isn't there
+-- the SHA-256 digest of a field; 32 zeros if it isn't there
 abbrev pub digest_in : Option (List ℕ) → List ℕ
 digest_in None = replicate 32 0
 digest_in (Some octets) = sha256 octets
@@ -121,7 +121,7 @@ pub record AreContents (item : List ℕ) (r : ItemRead) (size : ℕ) (c : Conten
   pub key_digest : c.key_digest ≡ digest_in (found_view r.found).key
 
 -- the class, the times, the fields and the digests of the item; the fields were put into the buffer,
--- or not, where they don't fit
+-- or not, if they don't fit
 pub record HasContents (item buffer buffer' : List ℕ) (c : Contents) (fits : Bool) : Type 0 where
   pub class : Class
   pub is_class : IsClassOf item class

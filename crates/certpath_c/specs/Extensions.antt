@@ -1,4 +1,4 @@
--- What `certpath_extensions` answers.
+-- What `certpath_extensions` returns.
 use Rattle.std.specs.Prelude.{◌≡◌, ◌⊎◌, ◌++◌, ℕ, ℤ, Bool, true, false, cond, List, length, map, Option, Some, None, Vec}
 use Rattle.std.specs.List.{flat_map}
 use Rattle.std.specs.declared.alloc.Global.{Global}
@@ -30,7 +30,7 @@ abbrev pub HasExtensionsOf : Class → Option (Vec ExtField Global) → Type 0
 HasExtensionsOf class None = class ≡ other
 HasExtensionsOf class (Some read) = AreExtensionsIn class (map ext_view read.items)
 
--- the extensions of the item, put into the buffers, or not, where they don't fit
+-- the extensions of the item, put into the buffers, or not, if they don't fit
 pub record AreListed (item octets octets' : List ℕ) (rows rows' : List ExtensionRow) (sizes' : ExtensionSizes) (fits : Bool) : Type 0 where
   pub class : Class
   pub is_class : IsClassOf item class

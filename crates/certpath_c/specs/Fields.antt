@@ -1,4 +1,4 @@
--- What `certpath_field` answers.
+-- What `certpath_field` returns.
 use Rattle.std.specs.Prelude.{◌≡◌, ◌⊎◌, ℕ, ℤ, Bool, true, false, List, length, Option, Some, None, nat_eq, if◌then◌else◌}
 use Rattle.cert_model.specs.Class.{Class, certificate, list, other, IsClassOf}
 use Rattle.cert_model.specs.Fields.{Certificate, RevocationList}
@@ -26,7 +26,7 @@ field_in number (certificate c) = certificate_field number c
 field_in number (list l) = list_field number l
 field_in number other = None
 
--- the item has the field, whose octets were put into the buffer, or not, where they don't fit
+-- the item has the field, whose octets were put into the buffer, or not, if they don't fit
 pub record HasField (item : List ℕ) (number : ℕ) (buffer buffer' : List ℕ) (length' : ℕ) (fits : Bool) : Type 0 where
   pub class : Class
   pub is_class : IsClassOf item class

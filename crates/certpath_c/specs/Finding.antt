@@ -1,4 +1,4 @@
--- What `certpath_find` answers.
+-- What `certpath_find` returns.
 use Rattle.std.specs.Prelude.{◌≡◌, ◌⊎◌, ℕ, ℤ, Bool, true, false, List, length}
 use Rattle.cert_framing.specs.Held.{Framed}
 use Rattle.cert_graph.specs.declared.answer.Answer.{Answer}

@@ -1,4 +1,4 @@
--- What `certpath_frame` answers.
+-- What `certpath_frame` returns.
 use Rattle.std.specs.Prelude.{◌≡◌, ◌⊎◌, ◌+◌, ℕ, ℤ, Bool, true, false, List, [], ◌∷◌, length}
 use Rattle.cert_framing.specs.declared.ending.End.{End}
 use Rattle.cert_framing.specs.declared.ending.End.TheVariants.{Clean, Cut, Fault}
@@ -25,7 +25,7 @@ end_place octets Clean = octets
 end_place octets (Cut at) = at
 end_place octets (Fault at) = at
 
--- the octets were cut into items, and their spans put into the buffer, or not, where they don't fit
+-- the octets were cut into items, and their spans put into the buffer, or not, if they don't fit
 pub record IsFramed (octets : List ℕ) (limit : ℕ) (spans spans' : List Span) (framed' : Framed) (fits : Bool) : Type 0 where
   pub items : List (List ℕ)
   pub end : End

@@ -1,7 +1,7 @@
 -- The numbers that the header gives the labels of PEM blocks.
 use Rattle.std.specs.Prelude.{ℕ, ◌+◌, nat_eq, if◌then◌else◌, List, [], ◌∷◌, codes, bytes_eq}
 
--- the number of a label among some, of which the first has this number; 0 where it is none of them
+-- the number of a label among some, of which the first has this number; 0 if it is none of them
 abbrev pub number_among : List ℕ → ℕ → List (List ℕ) → ℕ
 number_among label first [] = 0
 number_among label first (name ∷ names) = if bytes_eq label name then first else number_among label (first + 1) names
@@ -39,7 +39,7 @@ parameter_number label =
 abbrev pub first_number : ℕ → ℕ → ℕ
 first_number first second = if nat_eq first 0 then second else first
 
--- the number of a label; 0 where it isn't a known one
+-- the number of a label; 0 if it isn't a known one
 abbrev pub label_number : List ℕ → ℕ
 label_number label =
     first_number (first_number (item_number label) (signed_number label))

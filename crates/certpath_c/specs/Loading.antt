@@ -1,4 +1,4 @@
--- What `certpath_load` answers.
+-- What `certpath_load` returns.
 use Rattle.std.specs.Prelude.{◌≡◌, ◌⊎◌, ◌+◌, ℕ, ℤ, Bool, true, false, ◌||◌, if◌then◌else◌, List, [], ◌∷◌, length, count_by, Option, Some, None, is_some}
 use Rattle.std.specs.List.{list_any}
 use Rattle.certpath_pem.specs.Sources as sources
@@ -29,7 +29,7 @@ spot_position (rows.octet position) = position
 spot_position (rows.line number) = 0
 spot_position (rows.block number label) = 0
 
--- the number of a block's label, where that is known; else 0
+-- the number of a block's label, if that is known; else 0
 abbrev pub spot_label : Spot → ℕ
 spot_label rows.file = 0
 spot_label (rows.octet position) = 0
@@ -113,7 +113,7 @@ left_row before place reason = record {
   to_end = to_end_in reason;
 }
 
--- what rows leave out, where so many items are before them
+-- what rows leave out, if so many items are before them
 abbrev pub left_rows : ℕ → List Shown → List LeftOut
 left_rows before [] = []
 left_rows before (shown_item place kind size ∷ more) = left_rows (before + 1) more
@@ -127,7 +127,7 @@ abbrev pub is_no_members : Reason → Bool
 is_no_members rows.no_members = true
 is_no_members _ = false
 
--- what stands in SignedData, or that it holds nothing
+-- what is in SignedData, or that it holds nothing
 abbrev pub is_signed : Shown → Bool
 is_signed (shown_item place kind size) = is_some place.member
 is_signed (shown_left_out place reason) = is_no_members reason || is_some place.member
@@ -140,7 +140,7 @@ form_number sources.der has_signed = if has_signed then 3 else 2
 form_number sources.utf16 has_signed = 4
 form_number sources.other has_signed = 4
 
--- the items of the file, and what is left out of it, put into the buffers, or not, where they don't
+-- the items of the file, and what is left out of it, put into the buffers, or not, if they don't
 -- fit
 pub record AreLoaded (octets : List ℕ) (items items' : List ℕ) (left left' : List LeftOut) (loaded' : Loaded) (fits : Bool) : Type 0 where
   pub report : Held

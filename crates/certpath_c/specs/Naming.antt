@@ -1,4 +1,4 @@
--- What `certpath_name` answers.
+-- What `certpath_name` returns.
 use Rattle.std.specs.Prelude.{◌≡◌, ◌⊎◌, ℕ, ℤ, Bool, true, false, List, [], length}
 use Rattle.x509_names.specs.Fields.{Name}
 use Rattle.x509_names.specs.Names as grammar
@@ -12,7 +12,7 @@ pub record IsNameText (octets text : List ℕ) : Type 0 where
   pub spelled : grammar.X509Name octets name []
   pub text_is : text ≡ shown_name name
 
--- the text was put into the buffer, or not, where it doesn't fit
+-- the text was put into the buffer, or not, if it doesn't fit
 pub record IsNamed (octets buffer buffer' : List ℕ) (length' : ℕ) (fits : Bool) : Type 0 where
   pub text : List ℕ
   pub is_text : IsNameText octets text

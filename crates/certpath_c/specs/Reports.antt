@@ -23,7 +23,8 @@ use Rattle.certpath_c.specs.Status.{done, out_of_memory, too_small, bad_moment, 
 use Rattle.certpath_c.specs.Wanted.{IsNoHost}
 use Rattle.certpath_c.specs.Writing.{Puts}
 
--- what the program prints on a target, on what stands in its way, and on all items, where this is demanded
+-- what the program prints on a target, on what prevents its path, and on all items, if this is
+-- demanded
 abbrev pub IsPathReport : run.Settings → Demand → Framed → Framed → Vouchers → List ℕ → Type 0
 IsPathReport settings demand items anchors pairs text = (outcome : Outcome) × IsReportFor settings demand outcome items anchors pairs text
 
@@ -43,7 +44,7 @@ pub record HasReport (IsRight : Framed → Framed → Vouchers → List ℕ → 
   pub pairs_are : AreVouchersOf vouchers pairs
   pub is_right : IsRight items anchor_items pairs text
 
--- the text was put into the buffer, or not, where it doesn't fit
+-- the text was put into the buffer, or not, if it doesn't fit
 pub record IsPut (text buffer buffer' : List ℕ) (report report' : Report) (fits : Bool) : Type 0 where
   pub length_is : report'.length ≡ length text
   pub line_kept : report'.bad_line ≡ report.bad_line
@@ -59,7 +60,7 @@ pub record IsRefused (number : ℕ) (buffer buffer' : List ℕ) (report report' 
 abbrev pub IsKept : List ℕ → List ℕ → Report → Report → Type 0
 IsKept buffer buffer' report report' = (buffer' ≡ buffer) × (report' ≡ report)
 
--- what is answered of a text, or of why there is none
+-- what is returned for a text, or for why there is none
 abbrev pub PutsReport : Result (String Global) RunError → List ℕ → List ℕ → Report → Report → ℤ → Type 0
 PutsReport (Ok text) buffer buffer' report report' status =
     ((status ≡ done) × IsPut (string_bytes text) buffer buffer' report report' true) ⊎ ((status ≡ too_small) × IsPut (string_bytes text) buffer buffer' report report' false)
@@ -79,7 +80,7 @@ pub record Reports (IsAsked : Demand → Type 0) (IsRight : Policy → Demand �
   pub has_report : HasReport (IsRight policy demand) bundle anchors vouchers settings.limit text
   pub is_put : IsPut text buffer buffer' report report' fits
 
--- what is answered where the settings have a moment and a demand, by what is right
+-- what is returned if the settings have a moment and a demand, by what is right
 abbrev pub ReportAnswer : (Demand → Type 0) → (Policy → Demand → Framed → Framed → Vouchers → List ℕ → Type 0) → List ℕ → List ℕ → List ℕ → Settings → List ℕ → List ℕ → Report → Report → ℤ → Type 0
 ReportAnswer IsAsked IsRight bundle anchors vouchers settings buffer buffer' report report' status =
     ((status ≡ done) × Reports IsAsked IsRight bundle anchors vouchers settings buffer buffer' report report' true)

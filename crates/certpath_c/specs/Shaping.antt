@@ -30,7 +30,7 @@ shape_number octets = if is_whole octets then number_of (kind_of octets) else 0
 abbrev pub ShapeAnswer : List ℕ → ℕ → ℤ → Type 0
 ShapeAnswer item number' status = (status ≡ done) × (number' ≡ shape_number item)
 
--- the octets were cut into items, and the numbers of these put into the buffer, or not, where they
+-- the octets were cut into items, and the numbers of these put into the buffer, or not, if they
 -- don't fit
 pub record AreAllShaped (octets : List ℕ) (limit : ℕ) (shapes shapes' : List ℕ) (count' : ℕ) (fits : Bool) : Type 0 where
   pub items : List (List ℕ)

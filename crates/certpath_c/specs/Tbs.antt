@@ -1,4 +1,4 @@
--- What `certpath_tbs` answers.
+-- What `certpath_tbs` returns.
 use Rattle.std.specs.Prelude.{◌≡◌, ◌⊎◌, ℕ, ℤ, Bool, true, false, List, [], ◌∷◌, length, bytes_eq, if◌then◌else◌}
 use Rattle.std.specs.List.{flat_map}
 use Rattle.cert_model.specs.Class.{IsCertificateItem}
@@ -16,7 +16,7 @@ kept identifier e = if bytes_eq e.identifier identifier then [] else e ∷ []
 abbrev pub without : Identifier → List Extension → List Extension
 without identifier = flat_map (kept identifier)
 
--- the same fields, but for the extensions of the identifier
+-- the fields of a certificate, without the extensions of the identifier
 abbrev pub certificate_without : Identifier → Certificate → Certificate
 certificate_without identifier c = record {
   version = c.version;
@@ -39,7 +39,7 @@ abbrev pub IsRebuilt : List ℕ → Identifier → List ℕ → Type 0
 IsRebuilt item identifier octets = (c : Certificate) × IsCertificateItem item c × (octets ≡ certificate_octets (certificate_without identifier c))
 
 -- the item is a certificate, and its TBSCertificate without these extensions was put into the buffer,
--- or not, where it doesn't fit
+-- or not, if it doesn't fit
 pub record HasTbs (item identifier buffer buffer' : List ℕ) (length' : ℕ) (fits : Bool) : Type 0 where
   pub certificate : Certificate
   pub is_certificate : IsCertificateItem item certificate

@@ -1,4 +1,4 @@
--- What `certpath_times` answers.
+-- What `certpath_times` returns.
 use Rattle.std.specs.Prelude.{◌≡◌, ◌⊎◌, ℕ, ℤ, pos, List, Option, Some, None}
 use Rattle.cert_model.specs.Class.{Class, certificate, list, other, IsClassOf}
 use Rattle.cert_model.specs.Fields.{CivilTime}
@@ -15,7 +15,7 @@ pub record IsRow (t : CivilTime) (m : Moment) : Type 0 where
   pub minute : m.minute ≡ pos t.minute
   pub second : m.second ≡ pos t.second
 
--- when the next list is due, where that is told; else the first time again
+-- when the next list is due, if that is given; else the first time again
 abbrev pub IsNext : Option CivilTime → Validity → Type 0
 IsNext None v = (v.last ≡ v.first) × (v.has_last ≡ 0)
 IsNext (Some t) v = IsRow t v.last × (v.has_last ≡ 1)

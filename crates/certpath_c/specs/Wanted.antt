@@ -16,7 +16,7 @@ use Rattle.certpath_c.specs.declared.asked.Settings.{Settings}
 use Rattle.certpath_c.specs.declared.wanted.Wanted.{Wanted}
 use Rattle.certpath_c.specs.Asked.{VouchesBy}
 
--- octets, where there are any
+-- octets, if there are any
 abbrev pub given : List ℕ → Option (List ℕ)
 given [] = None
 given (octet ∷ octets) = Some (octet ∷ octets)
@@ -30,7 +30,7 @@ IsHostIn text (Some host) = (text ≢ []) × AsksFor text host
 abbrev pub IsNoHost : List ℕ → Type 0
 IsNoHost text = (text ≢ []) × ((reason : Refusal) × IsRefusedFor text reason)
 
--- the purpose and the host of settings, where they have any octets
+-- the purpose and the host of settings, if they have any octets
 pub record IsWantedBy (settings : Settings) (w : Wanted) : Type 0 where
   pub purpose : option_copied w.purpose ≡ given settings.purpose.now
   pub host : IsHostIn settings.host.now w.host

@@ -89,7 +89,7 @@ fn demands(settings: &Settings<'_>) -> bool
     settings.demands_lists != 0
 }
 
-/// The policy of settings; none where their moment is no date and time.
+/// The policy of settings; none if their moment is no date and time.
 pub(crate) fn policy_of(settings: &Settings<'_>) -> Option<Policy>
     ensures found { IfSome result (IsPolicyOf settings.now) }
     ensures none { IfNone result (IsNoMoment settings.now.moment) }

@@ -29,7 +29,7 @@ fn number_of(said: bool) -> u32
     if said { 1 } else { 0 }
 }
 
-/// What the check says by a policy, of the files as they are cut; none where what is given isn't an
+/// What the check says by a policy, of the files as they are cut; none if what is given isn't an
 /// answer. The only error is out of memory.
 fn checked(
     alloc: Global,

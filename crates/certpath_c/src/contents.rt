@@ -44,7 +44,7 @@ pub struct Contents {
     pub key_digest: [u8; 32],
 }
 
-/// The octets of each field, where the item has it.
+/// The octets of each field, if the item has it.
 #[derive(Clone, Copy, Debug)]
 struct Found<'a> {
     issuer: Option<&'a [u8]>,
@@ -197,7 +197,7 @@ fn extent_of(field: Option<&[u8]>) -> Extent
     }
 }
 
-/// The octets of a field; none where it isn't there.
+/// The octets of a field; none if it isn't there.
 fn octets_in<'a>(field: Option<&'a [u8]>) -> &'a [u8]
     ensures { result.now ≡ octets_in (option_copied field.entry) }
 {
@@ -235,7 +235,7 @@ fn digest_of(octets: &[u8]) -> [u8; 32]
     Sha256::digest(octets)
 }
 
-/// The digest of a field; zeros where it isn't there.
+/// The digest of a field; zeros if it isn't there.
 fn digest_in(field: Option<&[u8]>) -> [u8; 32]
     ensures { result ≡ digest_in (option_copied field.entry) }
 {

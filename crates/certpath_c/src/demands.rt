@@ -20,7 +20,7 @@ pub(crate) fn shown_purpose(alloc: Global, identifier: &[u8]) -> Result<String, 
     Ok(shown)
 }
 
-/// The purpose of an identifier, by its text; none where it has no octets.
+/// The purpose of an identifier, by its text; none if it has no octets.
 pub(crate) fn asked_purpose<'a>(identifier: &'a [u8], shown: &'a str) -> Option<AskedPurpose<'a>>
     requires { IsShown identifier.now shown.now }
     ensures { IsAskedPurpose identifier.now result }
@@ -31,7 +31,7 @@ pub(crate) fn asked_purpose<'a>(identifier: &'a [u8], shown: &'a str) -> Option<
     }
 }
 
-/// The text of octets; none where they are no UTF-8.
+/// The text of octets; none if they are no UTF-8.
 fn text_of(octets: &[u8]) -> Option<&str>
     ensures found { IfSome result (λ text. text.now ≡ octets.now) }
     ensures none { IfNone result (¬ IsUtf8 octets.now) }
@@ -42,7 +42,8 @@ fn text_of(octets: &[u8]) -> Option<&str>
     }
 }
 
-/// The host that a text asks for, by this text; `Err` where it is no host. An empty text asks for none.
+/// The host that a text asks for, by this text; `Err` if it is no host. An empty text asks for
+/// none.
 pub(crate) fn asked_host(text: &[u8]) -> Result<Option<AskedHost<'_>>, NoHost>
     ensures { MatchResult result (IsAskedHost text.now) (λ _. IsNoHost text.now) }
 {

@@ -54,7 +54,7 @@ fn list_field<'a>(item: &'a [u8], fields: &ListFields<'a>, number: u32) -> Optio
     }
 }
 
-/// A field of an item, where it has it.
+/// A field of an item, if it has it.
 fn field_of<'a>(alloc: Global, item: &'a [u8], number: u32) -> Result<Option<&'a [u8]>, OutOfMemory>
     ensures { IfOk result (λ r. (class : Class) × IsClassOf item.now class × (option_map (λ o. o.now) r ≡ field_in number class)) }
 {

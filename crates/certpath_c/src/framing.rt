@@ -29,7 +29,7 @@ pub struct Framed {
 /// How many octets are looked at before the rest is copied.
 const FRONT: usize = 65536;
 
-/// The items of octets, of at most so many content octets. The only error is out of memory. Where a
+/// The items of octets, of at most so many content octets. The only error is out of memory. If a
 /// fault is among the first octets, as in a text, no others are copied.
 pub(crate) fn items_of(alloc: Global, octets: &[u8], limit: u32) -> Result<Items, AllocError>
     ensures { IfOk result (λ items. IsFraming limit octets.now items.items items.end) }

@@ -9,7 +9,7 @@ fn is_equal(label: &[u8], name: &[u8]) -> bool
     label == name
 }
 
-/// The number of a label among four, of which the first has this number; 0 where it is none of them.
+/// The number of a label among four, of which the first has this number; 0 if it is none of them.
 fn number_among(label: &[u8], first: u32, one: &[u8], two: &[u8], three: &[u8], four: &[u8]) -> u32
     requires { first < 100 }
     ensures { result ≡ number_among label.now first (one.now ∷ two.now ∷ three.now ∷ four.now ∷ []) }
@@ -112,7 +112,7 @@ fn either(first: u32, second: u32) -> u32
     if first == 0 { second } else { first }
 }
 
-/// The number of a label; 0 where it isn't a known one.
+/// The number of a label; 0 if it isn't a known one.
 pub(crate) fn label_number(label: &[u8]) -> u32
     ensures { result ≡ label_number label.now }
 {

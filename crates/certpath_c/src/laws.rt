@@ -44,7 +44,7 @@ pub fn found_is_right()
     one_framing();
 }
 
-/// Octets to which `certpath_shape` gives a kind are one item of it for `certpath_load`, where a file
+/// Octets to which `certpath_shape` gives a kind are one item of it for `certpath_load`, if a file
 /// in DER holds nothing else. The example is SEQUENCE { SEQUENCE { two SEQUENCEs, UTCTime },
 /// SEQUENCE, BIT STRING }.
 pub fn shapes_are_taken()

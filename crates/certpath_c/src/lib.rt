@@ -1,5 +1,5 @@
 //! The calls of `include/certpath.h`: thin exports over the crates that read and judge. Each tests what the call below it
-//! requires, answers a status, and writes into the caller's buffers what its contract says.
+//! requires, returns a status, and writes into the caller's buffers what its contract says.
 #![tactic(auto)]
 
 mod answers;

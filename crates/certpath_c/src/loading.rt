@@ -180,7 +180,7 @@ fn left_row(before: usize, place: Place<'_>, reason: Reason) -> LeftOut
     }
 }
 
-/// Adds what a row leaves out, where so many items are before it.
+/// Adds what a row leaves out, if so many items are before it.
 fn push_left(left: &mut Vec<LeftOut>, before: usize, row: &Row<'_>) -> Result<(), AllocError>
     ensures { OnOk result (left.new.items ≡ left.old.items ++ left_rows before (row_view row.now ∷ [])) }
 {

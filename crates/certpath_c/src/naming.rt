@@ -10,7 +10,7 @@ use asn1_traits::FromDer;
 use std::alloc::Global;
 use x509_names::X509Name;
 
-/// The text of a name, where the octets are one.
+/// The text of a name, if the octets are one.
 fn text_of(alloc: Global, name: &[u8]) -> Result<Option<String>, OutOfMemory>
     ensures found { IfOk result (λ r. IfSome r (λ text. IsNameText name.now (string_bytes text))) }
     ensures none { IfOk result (λ r. IfNone r (IsNoName name.now)) }

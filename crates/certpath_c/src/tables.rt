@@ -8,7 +8,7 @@ use crate::answers::AnswerRow;
 use cert_graph::{Answer, Reach, Table, steps_of_rows};
 use std::alloc::{AllocError, Global};
 
-/// The reach of a number; none where it stands for none.
+/// The reach of a number; none if it stands for none.
 fn reach_of(number: u64) -> Option<Reach>
     ensures found { IfSome result (λ r. (reach_number r ≡ number) × FitsReach r) }
     ensures none { IfNone result (IsNoReach number) }
@@ -47,7 +47,7 @@ fn is_short(entries: &[u64], width: usize) -> bool
     width == 0 || entries.len() < width
 }
 
-/// The table of entries; none where they aren't whole rows of this width.
+/// The table of entries; none if they aren't whole rows of this width.
 fn table_of(alloc: Global, entries: &[u64], width: usize) -> Result<Option<Table>, AllocError>
     ensures found { IfOk result (λ o. IfSome o (IsTableOf width entries.now)) }
     ensures none { IfOk result (λ o. IfNone o (AreNoRows width entries.now)) }
@@ -85,7 +85,7 @@ fn path_of(
     })
 }
 
-/// The answer of a row, positions and entries; none where they aren't one.
+/// The answer of a row, positions and entries; none if they aren't one.
 pub(crate) fn given_answer(
     alloc: Global,
     row: &AnswerRow,

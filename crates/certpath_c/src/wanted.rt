@@ -10,7 +10,7 @@ use cert_judge::Policy;
 use cert_serving::Demands;
 use host_names::Host;
 
-/// A purpose and a host, where they are demanded.
+/// A purpose and a host, if they are demanded.
 #[derive(Clone, Copy, Debug)]
 pub(crate) struct Wanted<'a> {
     purpose: Option<&'a [u8]>,
@@ -24,7 +24,7 @@ pub(crate) struct Judged<'a> {
     pub(crate) wanted: Wanted<'a>,
 }
 
-/// Octets, where there are any.
+/// Octets, if there are any.
 fn given(octets: &[u8]) -> Option<&[u8]>
     ensures { option_copied result ≡ given octets.now }
 {
@@ -34,7 +34,7 @@ fn given(octets: &[u8]) -> Option<&[u8]>
     }
 }
 
-/// The host that a text asks for; `Err` where it is no host. An empty text asks for none.
+/// The host that a text asks for; `Err` if it is no host. An empty text asks for none.
 pub(crate) fn host_in(text: &[u8]) -> Result<Option<Host<'_>>, NoHost>
     ensures { MatchResult result (IsHostIn text.now) (λ _. IsNoHost text.now) }
 {
@@ -51,7 +51,7 @@ pub(crate) fn host_in(text: &[u8]) -> Result<Option<Host<'_>>, NoHost>
 #[derive(Clone, Copy, Debug)]
 pub(crate) struct NoHost;
 
-/// What settings demand; none where their host is no host.
+/// What settings demand; none if their host is no host.
 pub(crate) fn wanted_of<'a>(settings: &Settings<'a>) -> Option<Wanted<'a>>
     ensures found { IfSome result (IsWantedBy settings.now) }
     ensures none { IfNone result (IsNoHost settings.now.host.now) }
@@ -65,7 +65,7 @@ pub(crate) fn wanted_of<'a>(settings: &Settings<'a>) -> Option<Wanted<'a>>
     }
 }
 
-/// The octets of the item at a position; none where there is no such item.
+/// The octets of the item at a position; none if there is no such item.
 fn octets_at(items: &Items, position: usize) -> &[u8]
     ensures { result.now ≡ slice_index_or items.now.items position [] }
 {

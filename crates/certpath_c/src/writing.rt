@@ -3,7 +3,7 @@
 ghost use Rattle.std.specs.Prelude.{◌≡◌, ◌++◌, ◌<◌, drop, length, if◌then◌else◌};
 ghost use Rattle.certpath_c.specs.Writing.{Puts, PutsBoth};
 
-/// Writes values at the front of a buffer, or nothing where they don't fit.
+/// Writes values at the front of a buffer, or nothing if they don't fit.
 pub(crate) fn put<T: Copy>(buffer: &mut [T], values: &[T]) -> bool
     ensures { Puts buffer.old buffer.new values.now result }
 {
@@ -15,7 +15,7 @@ pub(crate) fn put<T: Copy>(buffer: &mut [T], values: &[T]) -> bool
     true
 }
 
-/// Writes both, or neither where one of them doesn't fit.
+/// Writes both, or neither if one of them doesn't fit.
 pub(crate) fn put_both<S: Copy, T: Copy>(
     buffer: &mut [S],
     values: &[S],

@@ -23,7 +23,7 @@ use Rattle.certpath_engine.specs.ItemsErrors as failures
 use Rattle.certpath_engine.specs.Inputs.{Bundle, Anchors, Vouchers}
 use Rattle.certpath_engine.specs.RunErrors.{OutOfMemory}
 
--- it tells of the file of this word
+-- it names the file of this word
 abbrev pub IsOfFile : List ℕ → FrameOutcome → Type 0
 IsOfFile word (Unopened file) = file.now ≡ word
 IsOfFile word (Framed file answer) = file.now ≡ word
@@ -49,25 +49,25 @@ IsUnopened files input (paths.Ran of answer) = (of ≡ files) × (answer ≡ Err
 abbrev pub NamesOneOf : PathFiles → List ℕ → Type 0
 NamesOneOf files word = (word ≡ word_of files Bundle) ⊎ (word ≡ word_of files Anchors) ⊎ (word ≡ word_of files Vouchers)
 
--- it tells of these files: of one that could not be opened, or of a run over them
+-- it names these files: one that could not be opened, or those of a run
 abbrev pub IsOfFiles : {T : Type 0} → PathFiles → PathOutcome T → Type 0
 IsOfFiles files (paths.Unopened file) = NamesOneOf files file.now
 IsOfFiles files (paths.Ran of answer) = of ≡ files
 
--- it tells of these files, or of the file of the evidence
+-- it names these files, or the file of the evidence
 abbrev pub IsOfSearch : PathFiles → List ℕ → PathsOutcome → Type 0
 IsOfSearch files evidence (searched.Found outcome) = IsOfFiles files outcome
 IsOfSearch files evidence (searched.Uncreated file) = file.now ≡ evidence
 IsOfSearch files evidence (searched.Unwritten file) = file.now ≡ evidence
 
--- it is of these files, or of that of the evidence, where there is one
+-- it is of these files, or of that of the evidence, if there is one
 abbrev pub IsOfPaths : PathFiles → Option (Bor (List ℕ)) → PathsOutcome → Type 0
 IsOfPaths files None (searched.Found outcome) = IsOfFiles files outcome
 IsOfPaths files None (searched.Uncreated file) = ⊥
 IsOfPaths files None (searched.Unwritten file) = ⊥
 IsOfPaths files (Some evidence) outcome = IsOfSearch files evidence.now outcome
 
--- it tells of these four files: of one that could not be opened, or of a run over them
+-- it names these four files: one that could not be opened, or those of a run
 abbrev pub IsOfRecheck : RecheckFiles → RecheckOutcome → Type 0
 IsOfRecheck files (rechecked.Unopened file) = NamesOneOf files.searched file.now ⊎ (file.now ≡ files.evidence.now)
 IsOfRecheck files (rechecked.Ran of answer) = of ≡ files
@@ -77,7 +77,7 @@ abbrev pub AreItemsUnopened : ItemFiles → ItemInput → QuestionsOutcome → T
 AreItemsUnopened files input (asked.Unopened file) = file.now ≡ item_word_of files input
 AreItemsUnopened files input (asked.Asked of answer) = (of ≡ files) × (answer ≡ Err failures.OutOfMemory)
 
--- it tells of these files of items
+-- it names these files of items
 abbrev pub IsOfItemFiles : ItemFiles → QuestionsOutcome → Type 0
 IsOfItemFiles files (asked.Unopened file) = (file.now ≡ item_word_of files items.Bundle) ⊎ (file.now ≡ item_word_of files items.Anchors)
 IsOfItemFiles files (asked.Asked of answer) = of ≡ files

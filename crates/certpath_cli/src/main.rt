@@ -23,7 +23,7 @@ fn main(rt: HostRuntime) -> ExitCode {
     ExitCode::from(status_of(&rt))
 }
 
-/// Does what the words ask for, and answers the exit status.
+/// Does what the words ask for, and returns the exit status.
 fn status_of<R: Runtime + AllocGlobal>(rt: &R) -> u8 {
     let words = match words_given(rt) {
         Ok(words) => words,
@@ -227,7 +227,7 @@ fn explain<'a, R: Runtime + AllocGlobal>(
     report_on(rt, question.files, &asked)
 }
 
-/// Finds the paths of all items, to standard output, and writes the evidence to a file, where one
+/// Finds the paths of all items, to standard output, and writes the evidence to a file, if one
 /// is named.
 fn find_paths<'a, R: Runtime + AllocGlobal>(
     rt: &R,
@@ -440,12 +440,12 @@ fn opened<'a, R: Runtime + AllocGlobal, T: Drop>(
     }
 }
 
-/// Says on standard error what there is to say, and answers the exit status.
+/// Says on standard error what there is to say, and returns the exit status.
 fn say<R: Eprint>(rt: &R, exit: Exit<'_>) -> u8
     ensures { result ≡ exit.entry.status }
 {
     if let Some(message) = &exit.message {
-        // The status says it too, where standard error fails.
+        // The status says it too, if standard error fails.
         let _ = rt.eprint(message);
     }
     exit.status

@@ -1,4 +1,4 @@
--- What `parse` answers to a text of digits, in the words of `WritesNumber`.
+-- What `parse` returns for a text of digits, in the words of `WritesNumber`.
 use Rattle.std.proofs.Common.{◌≡◌, ◌≢◌, ℕ, ◌-◌, ◌<◌, ◌^◌, List, [], ◌∷◌, length, map, Option, Some, Result, Ok, Err, IfSome, refl, sym, ap, ◌∙◌, subst, arith, rules}
 use Rattle.std.proofs.lemmas.Str.Parse.{IsNumeralModel, numerals_by_fold, parse_digits}
 use Rattle.std.specs.Char.{IsAsciiDigit}

@@ -211,7 +211,7 @@ none_of_three (inl r) = r
 none_of_three (inr (inl r)) = r
 none_of_three (inr (inr r)) = r
 
--- what is answered to the words behind `path`, and behind `why`, is answered to all words
+-- what is returned for the words after `path`, and after `why`, is returned for all words
 pub path_answers : (words : List Text) (t : PathTexts) (r : Result Command WordFault) → Asks words (asks.Path t) → ReadsPath t r → AnswersWords words r
 path_answers words t (Ok command) asked reads = (asks.Path t, asked, reads)
 path_answers words t (Err (faults.Refused said)) asked reads = absurd (none_of_three (demands_fault t (faults.Refused said) reads))

@@ -115,7 +115,7 @@ pub record LacksOneOf (arguments : List Text) (rows : List Row) : Type 0 where
   pub listed : Contains arguments argument
   pub lacks : first_of argument rows ≡ None
 
--- the words of the command of this name; none only where one of its arguments has no value
+-- the words of the command of this name; none only if one of its arguments has no value
 abbrev pub TellsTexts : Text → List Text → List Row → Result Asked WordFault → Type 0
 TellsTexts name arguments rows (Ok asked) = (name_of asked ≡ name) × AsksOf rows asked
 TellsTexts name arguments rows (Err (Refused said)) = ⊥
@@ -125,7 +125,7 @@ TellsTexts name arguments rows (Err (Host reason)) = ⊥
 TellsTexts name arguments rows (Err (PurposeFault reason)) = ⊥
 TellsTexts name arguments rows (Err OutOfMemory) = LacksOneOf arguments rows
 
--- the words of `bundle`; none where they can't be kept
+-- the words of `bundle`; none if they can't be kept
 abbrev pub GivesBundle : List Row → Result Asked WordFault → Type 0
 GivesBundle rows (Ok asked) = (name_of asked ≡ codes "bundle") × AsksOf rows asked
 GivesBundle rows (Err (Refused said)) = ⊥
@@ -135,7 +135,7 @@ GivesBundle rows (Err (Host reason)) = ⊥
 GivesBundle rows (Err (PurposeFault reason)) = ⊥
 GivesBundle rows (Err OutOfMemory) = Unit {0}
 
--- the words of a question on one target; none only where one of its arguments has no value
+-- the words of a question on one target; none only if one of its arguments has no value
 abbrev pub TellsQuestion : List Row → Result PathTexts WordFault → Type 0
 TellsQuestion rows (Ok texts) = ArePathTexts rows texts
 TellsQuestion rows (Err (Refused said)) = ⊥
@@ -145,7 +145,7 @@ TellsQuestion rows (Err (Host reason)) = ⊥
 TellsQuestion rows (Err (PurposeFault reason)) = ⊥
 TellsQuestion rows (Err OutOfMemory) = LacksOneOf path_arguments rows
 
--- the files, and how all items are judged; likewise
+-- the words of a question on all items; none only if one of its arguments has no value
 abbrev pub TellsAll : List Row → Result AllTexts WordFault → Type 0
 TellsAll rows (Ok texts) = AreAllTexts rows texts
 TellsAll rows (Err (Refused said)) = ⊥
@@ -170,7 +170,7 @@ IsNoNumber text = (n : ℕ) → n < 2 ^ 32 → ¬ (WritesNumber text n)
 abbrev pub IsNoMoment : Text → Type 0
 IsNoMoment text = (t : CivilTime) → ¬ (WritesMoment text t)
 
--- what is answered to the words after `frame`
+-- what is returned for the words after `frame`
 abbrev pub ReadsFrame : FrameTexts → Result Command WordFault → Type 0
 ReadsFrame t (Ok (Frame file limit why)) = (file.now ≡ t.file.now) × WritesNumber t.limit.now limit × (IsTrue why ↔ (t.why.now ≡ codes "true"))
 ReadsFrame t (Ok _) = ⊥
@@ -181,7 +181,7 @@ ReadsFrame t (Err (Host reason)) = ⊥
 ReadsFrame t (Err (PurposeFault reason)) = ⊥
 ReadsFrame t (Err OutOfMemory) = ⊥
 
--- what is answered to the words after `bundle`
+-- what is returned for the words after `bundle`
 abbrev pub ReadsBundle : BundleTexts → Result Command WordFault → Type 0
 ReadsBundle t (Ok (Bundle files)) = files.items ≡ t.files.items
 ReadsBundle t (Ok _) = ⊥
@@ -221,7 +221,8 @@ RefusesQuestion t (Host reason) = ⊥
 RefusesQuestion t (PurposeFault reason) = ⊥
 RefusesQuestion t OutOfMemory = ⊥
 
--- the word of --host asks for this host, which is shown as it is written; there is none where there is no word
+-- the word of --host asks for this host, which is shown as it is written; there is none if there is
+-- no word
 abbrev pub WritesHost : Option (Bor Text) → Option AskedHost → Type 0
 WritesHost None None = Unit {0}
 WritesHost None (Some asked) = ⊥
@@ -248,7 +249,7 @@ RefusesPurposeOf (Some text) (PurposeFault reason) = RefusesPurpose text.now rea
 RefusesPurposeOf (Some text) OutOfMemory = Unit {0}
 RefusesPurposeOf (Some text) fault = ⊥
 
--- what is answered to the words behind `path`, and behind `why`
+-- what is returned for the words after `path`, and after `why`
 abbrev pub AsksQuestion : PathTexts → Question → Type 0
 AsksQuestion t question = NamesFiles t.all question.files × WritesTarget t question.settings × WritesHost t.host question.host × WritesPurposeOf t.all.purpose question.purpose
 
@@ -262,7 +263,7 @@ AsksPurpose (Some purpose) (Some asked) = (asked.identifier.now ≡ purpose.iden
 abbrev pub AsksDemand : Question → Demand → Type 0
 AsksDemand question demand = (demand.host ≡ question.host) × AsksPurpose question.purpose demand.purpose
 
--- the words of a question write some settings, and a host where they have the word
+-- the words of a question write some settings, and a host if they have the word
 abbrev pub IsTargeted : PathTexts → Type 0
 IsTargeted t = (settings : Settings) × WritesTarget t settings
 
@@ -288,7 +289,7 @@ ReadsWhy t (Ok (Why question)) = AsksQuestion t question
 ReadsWhy t (Ok _) = ⊥
 ReadsWhy t (Err fault) = RefusesDemands t fault
 
--- and behind `questions`
+-- what is returned for the words after `questions`
 abbrev pub ReadsQuestions : QuestionsTexts → Result Command WordFault → Type 0
 ReadsQuestions t (Ok (Questions files limit)) = (files.bundle.now ≡ t.bundle.now) × (files.anchors.now ≡ t.anchors.now) × WritesNumber t.limit.now limit
 ReadsQuestions t (Ok _) = ⊥
@@ -299,21 +300,21 @@ ReadsQuestions t (Err (Host reason)) = ⊥
 ReadsQuestions t (Err (PurposeFault reason)) = ⊥
 ReadsQuestions t (Err OutOfMemory) = ⊥
 
--- and behind `paths`
+-- what is returned for the words after `paths`
 abbrev pub ReadsPaths : PathsTexts → Result Command WordFault → Type 0
 ReadsPaths t (Ok (Paths files evidence settings purpose)) =
     NamesFiles t.all files × (option_map (λ s. s.now) evidence ≡ option_map (λ s. s.now) t.evidence) × WritesSettings t.all settings × WritesPurposeOf t.all.purpose purpose
 ReadsPaths t (Ok _) = ⊥
 ReadsPaths t (Err fault) = RefusesAll t.all fault
 
--- and behind `recheck`
+-- what is returned for the words after `recheck`
 abbrev pub ReadsRecheck : RecheckTexts → Result Command WordFault → Type 0
 ReadsRecheck t (Ok (Recheck files settings purpose)) =
     NamesFiles t.all files.searched × (files.evidence.now ≡ t.evidence.now) × WritesSettings t.all settings × WritesPurposeOf t.all.purpose purpose
 ReadsRecheck t (Ok _) = ⊥
 ReadsRecheck t (Err fault) = RefusesAll t.all fault
 
--- what is answered to a command's words
+-- what is returned for a command's words
 abbrev pub Reads : Asked → Result Command WordFault → Type 0
 Reads (asks.Frame t) r = ReadsFrame t r
 Reads (asks.Bundle t) r = ReadsBundle t r
@@ -323,7 +324,8 @@ Reads (asks.Questions t) r = ReadsQuestions t r
 Reads (asks.Paths t) r = ReadsPaths t r
 Reads (asks.Recheck t) r = ReadsRecheck t r
 
--- What is answered to the words: what their command's values write. They are refused only where clap does not take them.
+-- What is returned for the words: what their command's values write. They are refused only if clap
+-- does not take them.
 abbrev pub AnswersWords : List Text → Result Command WordFault → Type 0
 AnswersWords words (Ok command) = (asked : Asked) × Asks words asked × Reads asked (Ok command)
 AnswersWords words (Err (Refused said)) = ¬ (takes certpath_app words ≡ true)
@@ -333,7 +335,7 @@ AnswersWords words (Err (Host reason)) = (asked : Asked) × Asks words asked × 
 AnswersWords words (Err (PurposeFault reason)) = (asked : Asked) × Asks words asked × Reads asked (Err (PurposeFault reason))
 AnswersWords words (Err OutOfMemory) = Unit {0}
 
--- the same of the words alone, before they are read
+-- what is returned for the words alone, before their values are read
 abbrev pub AnswersTexts : List Text → Result Asked WordFault → Type 0
 AnswersTexts words (Ok asked) = Asks words asked
 AnswersTexts words (Err (Refused said)) = ¬ (takes certpath_app words ≡ true)
@@ -343,7 +345,7 @@ AnswersTexts words (Err (Host reason)) = ⊥
 AnswersTexts words (Err (PurposeFault reason)) = ⊥
 AnswersTexts words (Err OutOfMemory) = Unit {0}
 
--- what is answered where clap's error has this kind
+-- what is returned if clap's error has this kind
 abbrev pub IsRefusal : ErrorKind → WordFault → Type 0
 IsRefusal kind (Refused said) = kind ≢ NoMemory
 IsRefusal kind Number = ⊥

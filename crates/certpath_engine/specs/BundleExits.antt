@@ -9,13 +9,13 @@ use Rattle.certpath_engine.specs.declared.bundle_exit.BundleOutcome.{BundleOutco
 use Rattle.certpath_engine.specs.declared.bundle_exit.BundleOutcome.TheVariants.{Unopened, Unread, Bundled}
 use Rattle.certpath_engine.specs.Exits.{line, cannot_read}
 
--- status and text where the file of this word was opened and not read
+-- status and text if the file of this word was opened and not read
 abbrev pub unread_exit_of : List ℕ → InputError → ℕ × List ℕ
 unread_exit_of word inputs.Read = (4, cannot_read word)
 unread_exit_of word inputs.TooLong = (4, cannot_read word)
 unread_exit_of word inputs.OutOfMemory = (6, line (codes "out of memory"))
 
--- the status where so often something was left out
+-- the status if so often something was left out
 abbrev pub left_out_status_of : ℕ → ℕ
 left_out_status_of count = if count == 0 then 0 else 1
 
@@ -26,7 +26,7 @@ abbrev pub unwritten_exit_of : BundleError → ℕ × List ℕ
 unwritten_exit_of OutOfMemory = (6, line (codes "out of memory"))
 unwritten_exit_of Write = (7, line (codes "cannot write"))
 
--- status and text where the files were read
+-- status and text if the files were read
 abbrev pub bundled_exit_of : Result Said BundleError → ℕ × List ℕ
 bundled_exit_of (Ok said) = said_exit_of said
 bundled_exit_of (Err error) = unwritten_exit_of error

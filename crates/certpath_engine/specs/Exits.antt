@@ -38,7 +38,7 @@ bad_purpose reason = line (codes "bad purpose: " ++ reason_of reason)
 abbrev pub other_purpose : List ℕ
 other_purpose = line (codes "the evidence is for another purpose")
 
--- status and text where the words are refused or ask for help
+-- status and text if the words are refused or ask for help
 abbrev pub words_exit_of : WordFault → ℕ × List ℕ
 words_exit_of (Refused text) = (2, string_bytes text)
 words_exit_of Number = (2, line (codes "bad number"))

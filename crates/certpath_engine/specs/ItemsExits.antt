@@ -23,20 +23,20 @@ item_word_of files Anchors = files.anchors.now
 abbrev pub one_file : Bor (List ℕ) → ItemFiles
 one_file word = record { bundle = word; anchors = word }
 
--- status and text where the files were opened, and not all was written
+-- status and text if the files were opened, and not all was written
 abbrev pub items_exit_of : ItemFiles → ItemsError → ℕ × List ℕ
 items_exit_of files (Read input) = (4, cannot_read (item_word_of files input))
 items_exit_of files (TooLong input) = (4, cannot_read (item_word_of files input))
 items_exit_of files OutOfMemory = (6, line (codes "out of memory"))
 items_exit_of files Write = (7, line (codes "cannot write"))
 
--- the status where a stream ends so
+-- the status if a stream ends so
 abbrev pub end_status_of : End → ℕ
 end_status_of Clean = 0
 end_status_of (Cut at) = 1
 end_status_of (Fault at) = 1
 
--- status and text of `frame` where the file of this word was opened
+-- status and text of `frame` if the file of this word was opened
 abbrev pub framed_exit_of : Bor (List ℕ) → Result End ItemsError → ℕ × List ℕ
 framed_exit_of word (Ok end) = (end_status_of end, [])
 framed_exit_of word (Err error) = items_exit_of (one_file word) error
@@ -46,7 +46,7 @@ abbrev pub frame_exit : FrameOutcome → ℕ × List ℕ
 frame_exit (frames.Unopened word) = (4, cannot_read word.now)
 frame_exit (frames.Framed word answer) = framed_exit_of word answer
 
--- status and text of `questions` where the files were opened
+-- status and text of `questions` if the files were opened
 abbrev pub asked_exit_of : {A : Type 0} → ItemFiles → Result A ItemsError → ℕ × List ℕ
 asked_exit_of files (Ok done) = (0, [])
 asked_exit_of files (Err error) = items_exit_of files error

@@ -1,11 +1,11 @@
--- Moments read step by step. The meaning stands in `Moments`.
+-- Moments read step by step. The meaning is defined in `Moments`.
 use Rattle.std.specs.Prelude.{ℕ, ◌+◌, ◌*◌, ◌==◌, ◌&&◌, Bool, true, false, if◌then◌else◌, Option, Some, None, List, [], ◌∷◌}
 use Rattle.der_tree.specs.Time.{Moment}
 use Rattle.der_tree.specs.TimeReading.{◌>>=◌, pair_at}
 use Rattle.cert_model.specs.Fields.{CivilTime}
 use Rattle.cert_model.specs.Times.{is_real, civil_of}
 
--- two digits behind a separator
+-- two digits after a separator
 abbrev pub part_at : ℕ → List ℕ → Option (ℕ × List ℕ)
 part_at separator [] = None
 part_at separator (first ∷ rest) = if first == separator then pair_at rest else None

@@ -9,7 +9,7 @@ moment_text m =
     two_digits (m.year / 100) ++ (two_digits (m.year % 100) ++ (45 ∷ two_digits m.month ++ (45 ∷ two_digits m.day
     ++ (84 ∷ two_digits m.hour ++ (58 ∷ two_digits m.minute ++ (58 ∷ two_digits m.second))))))
 
--- the same date and time of day
+-- the date and time of day of a moment, on the whole second
 abbrev pub whole_second : Moment → CivilTime
 whole_second m = record { year = pos m.year; month = m.month; day = m.day; hour = m.hour; minute = m.minute; second = m.second; nanosecond = 0 }
 

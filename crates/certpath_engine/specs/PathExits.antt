@@ -30,7 +30,7 @@ abbrev pub all_status_of : AllOutcome → ℕ
 all_status_of Each = 0
 all_status_of NotEach = 1
 
--- status and text where the files were opened, and the run has no answer
+-- status and text if the files were opened, and the run has no answer
 abbrev pub refused_exit_of : PathFiles → RunError → ℕ × List ℕ
 refused_exit_of files (Read input) = (4, cannot_read (word_of files input))
 refused_exit_of files (TooLong input) = (4, cannot_read (word_of files input))
@@ -38,7 +38,7 @@ refused_exit_of files (BadLine number) = (5, vouchers_line number)
 refused_exit_of files OutOfMemory = (6, line (codes "out of memory"))
 refused_exit_of files Write = (7, line (codes "cannot write"))
 
--- status and text where the files were opened
+-- status and text if the files were opened
 abbrev pub ran_exit_of : PathFiles → Result Outcome RunError → ℕ × List ℕ
 ran_exit_of files (Ok outcome) = (status_of outcome, [])
 ran_exit_of files (Err error) = refused_exit_of files error

@@ -8,7 +8,7 @@ use Rattle.certpath_engine.specs.declared.recheck_exit.RecheckOutcome.TheVariant
 use Rattle.certpath_engine.specs.Exits.{cannot_read, evidence_line, other_purpose}
 use Rattle.certpath_engine.specs.PathExits.{refused_exit_of}
 
--- status and text where the files were opened, and nothing was said of the evidence
+-- status and text if the files were opened, and nothing was said of the evidence
 abbrev pub unsaid_exit_of : RecheckFiles → RecheckError → ℕ × List ℕ
 unsaid_exit_of files (Run error) = refused_exit_of files.searched error
 unsaid_exit_of files Read = (4, cannot_read files.evidence.now)
@@ -16,11 +16,11 @@ unsaid_exit_of files TooLong = (4, cannot_read files.evidence.now)
 unsaid_exit_of files (BadLine number) = (8, evidence_line number)
 unsaid_exit_of files OtherPurpose = (1, other_purpose)
 
--- the status where the check said this
+-- the status if the check said this
 abbrev pub said_status_of : Bool → ℕ
 said_status_of said = if said then 0 else 1
 
--- status and text where the files were opened
+-- status and text if the files were opened
 abbrev pub said_exit_of : RecheckFiles → Result Bool RecheckError → ℕ × List ℕ
 said_exit_of files (Ok said) = (said_status_of said, [])
 said_exit_of files (Err error) = unsaid_exit_of files error

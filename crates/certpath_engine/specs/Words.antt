@@ -1,10 +1,10 @@
--- The program's commands and their words, as clap is told of them.
+-- The program's commands and their words, as they are declared to clap.
 use Rattle.std.specs.Prelude.{true, [], ◌∷◌, Some, codes}
 use Rattle.clap.specs.Walk.{Rule, Text}
 use Rattle.clap.specs.Simple.{App, new_app, new_rule, on_top, with_rule, with_subcommand}
 use Rattle.clap.specs.declared.builder.action.ArgAction.TheVariants.{Append, SetTrue}
 
--- a file, which must stand there
+-- a file, which must be there
 abbrev pub file_rule : Text → Rule
 file_rule name = record (new_rule name) { required = true }
 
@@ -12,11 +12,11 @@ file_rule name = record (new_rule name) { required = true }
 abbrev pub files_rule : Rule
 files_rule = record (new_rule (codes "FILE")) { required = true; action = Some Append }
 
--- `--target N`, which must stand there
+-- `--target N`, which must be there
 abbrev pub target_rule : Rule
 target_rule = record (new_rule (codes "target")) { long = Some (codes "target"); value_names = 1; required = true }
 
--- `--at YYYY-MM-DDTHH:MM:SS`, which must stand there
+-- `--at YYYY-MM-DDTHH:MM:SS`, which must be there
 abbrev pub moment_rule : Rule
 moment_rule = record (new_rule (codes "at")) { long = Some (codes "at"); value_names = 1; required = true }
 
@@ -24,7 +24,7 @@ moment_rule = record (new_rule (codes "at")) { long = Some (codes "at"); value_n
 abbrev pub demand_rule : Rule
 demand_rule = record (new_rule (codes "demand-lists")) { long = Some (codes "demand-lists"); action = Some SetTrue }
 
--- `--limit N`, which is 16777216 where it does not stand
+-- `--limit N`, which is 16777216 if it is absent
 abbrev pub limit_rule : Rule
 limit_rule = record (new_rule (codes "limit")) { long = Some (codes "limit"); value_names = 1; defaults = codes "16777216" ∷ [] }
 
@@ -44,11 +44,12 @@ bundle_app = with_rule (new_app (codes "bundle")) files_rule
 abbrev pub with_files : App → App
 with_files app = with_rule (with_rule (with_rule app (file_rule (codes "BUNDLE"))) (file_rule (codes "ANCHORS"))) (file_rule (codes "VOUCHERS"))
 
--- `--at YYYY-MM-DDTHH:MM:SS [--demand-lists] [--limit N]` behind it
+-- `--at YYYY-MM-DDTHH:MM:SS [--demand-lists] [--limit N]` after it
 abbrev pub with_policy : App → App
 with_policy app = with_rule (with_rule (with_rule app moment_rule) demand_rule) limit_rule
 
--- `BUNDLE ANCHORS VOUCHERS --target N --at YYYY-MM-DDTHH:MM:SS [--demand-lists] [--limit N]` behind it
+-- `BUNDLE ANCHORS VOUCHERS --target N --at YYYY-MM-DDTHH:MM:SS [--demand-lists] [--limit N]` after
+-- it
 abbrev pub with_question : App → App
 with_question app = with_policy (with_rule (with_files app) target_rule)
 
@@ -60,11 +61,11 @@ host_rule = record (new_rule (codes "host")) { long = Some (codes "host"); value
 abbrev pub purpose_rule : Rule
 purpose_rule = record (new_rule (codes "purpose")) { long = Some (codes "purpose"); value_names = 1 }
 
--- `[--purpose NAME|OID]` behind it
+-- `[--purpose NAME|OID]` after it
 abbrev pub with_purpose : App → App
 with_purpose app = with_rule app purpose_rule
 
--- `[--host NAME] [--purpose NAME|OID]` behind it
+-- `[--host NAME] [--purpose NAME|OID]` after it
 abbrev pub with_host : App → App
 with_host app = with_purpose (with_rule app host_rule)
 

@@ -33,7 +33,7 @@ pub fn bundle_status<'a>(outcome: BundleOutcome<'a>) -> Exit<'a>
     }
 }
 
-/// How the program ends where the files were read.
+/// How the program ends if the files were read.
 fn bundled_exit<'a>(answer: Result<Said, BundleError>) -> Exit<'a>
     ensures status { result.status ≡ (bundled_exit_of answer).0 }
     ensures words { words_of result.message ≡ (bundled_exit_of answer).1 }
@@ -44,7 +44,7 @@ fn bundled_exit<'a>(answer: Result<Said, BundleError>) -> Exit<'a>
     }
 }
 
-/// How the program ends where a file was not read.
+/// How the program ends if a file was not read.
 fn unread_exit<'a>(file: &'a str, error: InputError) -> Exit<'a>
     ensures status { result.status ≡ (unread_exit_of file.now error).0 }
     ensures words { words_of result.message ≡ (unread_exit_of file.now error).1 }
@@ -55,14 +55,14 @@ fn unread_exit<'a>(file: &'a str, error: InputError) -> Exit<'a>
     }
 }
 
-/// The status where so often something was left out.
+/// The status if so often something was left out.
 fn left_out_status(count: usize) -> u8
     ensures { result ≡ left_out_status_of count }
 {
     if count == 0 { DONE } else { NOT_ALL }
 }
 
-/// How the program ends where all was written.
+/// How the program ends if all was written.
 fn said_exit<'a>(said: Said) -> Exit<'a>
     ensures status { result.status ≡ (said_exit_of said).0 }
     ensures words { words_of result.message ≡ (said_exit_of said).1 }
@@ -71,7 +71,7 @@ fn said_exit<'a>(said: Said) -> Exit<'a>
     ended(status, Message::LeftOut(said.text))
 }
 
-/// How the program ends where not all was written.
+/// How the program ends if not all was written.
 fn unwritten_exit<'a>(error: BundleError) -> Exit<'a>
     ensures status { result.status ≡ (unwritten_exit_of error).0 }
     ensures words { words_of result.message ≡ (unwritten_exit_of error).1 }

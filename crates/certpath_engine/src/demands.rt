@@ -32,7 +32,7 @@ impl Purpose {
     }
 }
 
-/// The host that a word asks for, where there is one.
+/// The host that a word asks for, if there is one.
 pub(crate) fn host_of<'a>(word: Option<&'a str>) -> Result<Option<AskedHost<'a>>, WordFault>
     ensures ok { IfOk result (WritesHost word.entry) }
     ensures refused { IfErr result (RefusesHost word.entry) }
@@ -58,7 +58,7 @@ fn shown(alloc: Global, identifier: Oid<'static>) -> Result<Purpose, WordFault>
     }
 }
 
-/// The purpose that a word asks for, where there is one.
+/// The purpose that a word asks for, if there is one.
 pub(crate) fn purpose_of(alloc: Global, word: Option<&str>) -> Result<Option<Purpose>, WordFault>
     ensures ok { IfOk result (WritesPurposeOf word.entry) }
     ensures refused { IfErr result (RefusesPurposeOf word.entry) }

@@ -86,7 +86,7 @@ pub fn questions_status<'a>(outcome: QuestionsOutcome<'a>) -> Exit<'a>
     }
 }
 
-/// How the program ends where the file to be framed was opened.
+/// How the program ends if the file to be framed was opened.
 fn framed_exit<'a>(file: &'a str, answer: Result<End, ItemsError>) -> Exit<'a>
     ensures status { result.status ≡ (framed_exit_of file.entry answer).0 }
     ensures words { words_of result.message ≡ (framed_exit_of file.entry answer).1 }
@@ -97,7 +97,7 @@ fn framed_exit<'a>(file: &'a str, answer: Result<End, ItemsError>) -> Exit<'a>
     }
 }
 
-/// The status where the stream was framed.
+/// The status if the stream was framed.
 fn end_status(end: End) -> u8
     ensures { result ≡ end_status_of end }
 {
@@ -107,7 +107,7 @@ fn end_status(end: End) -> u8
     }
 }
 
-/// How the program ends where the files of `questions` were opened.
+/// How the program ends if the files of `questions` were opened.
 fn asked_exit<'a>(files: ItemFiles<'a>, answer: Result<(), ItemsError>) -> Exit<'a>
     ensures status { result.status ≡ (asked_exit_of files.entry answer).0 }
     ensures words { words_of result.message ≡ (asked_exit_of files.entry answer).1 }
@@ -118,7 +118,7 @@ fn asked_exit<'a>(files: ItemFiles<'a>, answer: Result<(), ItemsError>) -> Exit<
     }
 }
 
-/// How the program ends where not all was written.
+/// How the program ends if not all was written.
 fn items_exit<'a>(files: ItemFiles<'a>, error: ItemsError) -> Exit<'a>
     ensures status { result.status ≡ (items_exit_of files.entry error).0 }
     ensures words { words_of result.message ≡ (items_exit_of files.entry error).1 }

@@ -19,7 +19,7 @@ pub fn read_moment(text: &str) -> Option<DateTime>
     moment_among(text.as_bytes())
 }
 
-/// The same of octets.
+/// The moment that octets write as `YYYY-MM-DDTHH:MM:SS`; none of any other octets.
 #[tactic(auto, unfolding(crate::specs::MomentReading::moment_in))]
 fn moment_among(octets: &[u8]) -> Option<DateTime>
     ensures { option_map time_view result ≡ moment_in octets.now }
@@ -32,7 +32,7 @@ fn moment_among(octets: &[u8]) -> Option<DateTime>
     }
 }
 
-/// What a clock and a calendar show at the front, and the octets behind it.
+/// What a clock and a calendar show at the front, and the octets after it.
 #[tactic(auto, unfolding(crate::specs::MomentReading::text_at))]
 fn clock_of(i: &[u8]) -> Option<(Clock, &[u8])>
     ensures value { option_map (λ p. (moment_of p.0, p.1.now)) result ≡ text_at i.now }
@@ -56,7 +56,7 @@ fn clock_of(i: &[u8]) -> Option<(Clock, &[u8])>
     Some((clock, i))
 }
 
-/// Two digits at the front, behind a separator.
+/// Two digits at the front, after a separator.
 fn part_of(separator: u8, i: &[u8]) -> Option<(u8, &[u8])>
     ensures value { option_map (λ p. (p.0, p.1.now)) result ≡ part_at separator i.now }
     ensures small { IfSome result (λ p. p.0 < 100) }
@@ -87,7 +87,7 @@ fn pair_of(i: &[u8]) -> Option<(u8, &[u8])>
     }
 }
 
-/// The date and time, where the calendar has the date and a clock shows the time.
+/// The date and time, if the calendar has the date and a clock shows the time.
 fn civil_of(clock: Clock) -> Option<DateTime>
     requires { IsWritable (moment_of clock) }
     ensures { option_map time_view result ≡ (if is_real (moment_of clock) then Some (civil_of (moment_of clock)) else None) }

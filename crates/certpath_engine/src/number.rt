@@ -5,7 +5,7 @@ ghost use Rattle.std.specs.List.{AllByRecursion};
 ghost use Rattle.certpath_engine.specs.Numbers.{WritesNumber};
 
 /// The number that `text` writes in decimal digits of ASCII, one or more; zeros may lead. None
-/// where the text is not of that form, or the number is above 4,294,967,295.
+/// if the text is not of that form, or the number is above 4,294,967,295.
 pub fn read_number(text: &str) -> Option<u32>
     ensures found { IfSome result (λ n. WritesNumber text.now n) }
     ensures only { (n : ℕ) → n < 2 ^ 32 → WritesNumber text.now n → result ≡ Some n }

@@ -33,7 +33,7 @@ impl<'a> PathFiles<'a> {
     }
 }
 
-/// How far a command over three files came that answers by a T.
+/// How far a command over three files came that returns a T.
 #[derive(Debug, Drop)]
 pub enum PathOutcome<'a, T> {
     /// This file can't be opened.
@@ -82,7 +82,7 @@ pub fn paths_status<'a>(outcome: PathsOutcome<'a>) -> Exit<'a>
     }
 }
 
-/// How the program ends where all items are asked about.
+/// How the program ends if all items are asked about.
 fn found_exit<'a>(outcome: PathOutcome<'a, AllOutcome>) -> Exit<'a>
     ensures status { result.status ≡ (found_exit outcome.entry).0 }
     ensures words { words_of result.message ≡ (found_exit outcome.entry).1 }
@@ -93,7 +93,7 @@ fn found_exit<'a>(outcome: PathOutcome<'a, AllOutcome>) -> Exit<'a>
     }
 }
 
-/// How the program ends where the files were opened.
+/// How the program ends if the files were opened.
 fn ran_exit<'a>(files: PathFiles<'a>, answer: Result<Outcome, RunError>) -> Exit<'a>
     ensures status { result.status ≡ (ran_exit_of files.entry answer).0 }
     ensures words { words_of result.message ≡ (ran_exit_of files.entry answer).1 }
@@ -104,7 +104,7 @@ fn ran_exit<'a>(files: PathFiles<'a>, answer: Result<Outcome, RunError>) -> Exit
     }
 }
 
-/// How it ends where they were opened, and all items are asked about.
+/// How it ends if they were opened, and all items are asked about.
 fn all_exit<'a>(files: PathFiles<'a>, answer: Result<AllOutcome, RunError>) -> Exit<'a>
     ensures status { result.status ≡ (all_exit_of files.entry answer).0 }
     ensures words { words_of result.message ≡ (all_exit_of files.entry answer).1 }
@@ -115,7 +115,7 @@ fn all_exit<'a>(files: PathFiles<'a>, answer: Result<AllOutcome, RunError>) -> E
     }
 }
 
-/// The status where the run has an answer.
+/// The status if the run has an answer.
 fn outcome_status(outcome: Outcome) -> u8
     ensures { result ≡ status_of outcome }
 {
@@ -126,7 +126,7 @@ fn outcome_status(outcome: Outcome) -> u8
     }
 }
 
-/// The status where it has one for all items.
+/// The status if it has one for all items.
 fn all_status(outcome: AllOutcome) -> u8
     ensures { result ≡ all_status_of outcome }
 {
@@ -136,7 +136,7 @@ fn all_status(outcome: AllOutcome) -> u8
     }
 }
 
-/// How the program ends where it has none.
+/// How the program ends if it has none.
 pub(crate) fn refused_exit<'a>(files: PathFiles<'a>, error: RunError) -> Exit<'a>
     ensures status { result.status ≡ (refused_exit_of files.entry error).0 }
     ensures words { words_of result.message ≡ (refused_exit_of files.entry error).1 }

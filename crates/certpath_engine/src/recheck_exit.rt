@@ -39,7 +39,7 @@ pub fn recheck_status<'a>(outcome: RecheckOutcome<'a>) -> Exit<'a>
     }
 }
 
-/// How the program ends where the files were opened.
+/// How the program ends if the files were opened.
 fn said_exit<'a>(files: RecheckFiles<'a>, answer: Result<bool, RecheckError>) -> Exit<'a>
     ensures status { result.status ≡ (said_exit_of files.entry answer).0 }
     ensures words { words_of result.message ≡ (said_exit_of files.entry answer).1 }
@@ -50,14 +50,14 @@ fn said_exit<'a>(files: RecheckFiles<'a>, answer: Result<bool, RecheckError>) ->
     }
 }
 
-/// The status where the check said this.
+/// The status if the check said this.
 fn said_status(said: bool) -> u8
     ensures { result ≡ said_status_of said }
 {
     if said { DONE } else { NOT_ALL }
 }
 
-/// How the program ends where nothing was said of the evidence.
+/// How the program ends if nothing was said of the evidence.
 fn unsaid_exit<'a>(files: RecheckFiles<'a>, error: RecheckError) -> Exit<'a>
     ensures status { result.status ≡ (unsaid_exit_of files.entry error).0 }
     ensures words { words_of result.message ≡ (unsaid_exit_of files.entry error).1 }

@@ -93,7 +93,7 @@ impl<'a> Question<'a> {
     }
 }
 
-/// A purpose as a run is asked for it, where there is one.
+/// A purpose as a run is asked for it, if there is one.
 pub fn asked_of(purpose: &Option<Purpose>) -> Option<AskedPurpose<'_>>
     ensures { AsksPurpose purpose.now result }
 {
@@ -124,9 +124,9 @@ pub enum WordFault {
 ///
 /// # Errors
 ///
-/// `Refused` where `clap` does not take them, with its text. `Number` where an N is not one or more
-/// decimal digits, or above 4,294,967,295. `Moment` where the moment is not of its form, or no date
-/// and time. `Host` and `Purpose` where a text is none, with the reason. `OutOfMemory`. Of several
+/// `Refused` if `clap` does not take them, with its text. `Number` if an N is not one or more
+/// decimal digits, or above 4,294,967,295. `Moment` if the moment is not of its form, or no date
+/// and time. `Host` and `Purpose` if a text is none, with the reason. `OutOfMemory`. Of several
 /// bad words the first in this order is named.
 #[tactic(auto, using(crate::proofs::WordLemmas::path_answers, crate::proofs::WordLemmas::why_answers))]
 pub fn read_words<'a>(alloc: Global, words: &'a [String]) -> Result<Command<'a>, WordFault>

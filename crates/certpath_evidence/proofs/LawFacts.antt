@@ -152,7 +152,7 @@ no_bad told n fits h = elim (compare h.before (lines_of told) h.rest [] (stand_f
   | inr rest ↦ elim rest [ inl g ↦ past_bad (evidence told) n h (lines_of told) [] told fits refl g | inr g ↦ none_begins g.line (ended g.more ++ h.rest) g.rest_is ]
 ]
 
--- what is told by lines
+-- what lines hold
 
 same_path : (ps qs : List ℕ) (a b : ℕ) → FitsSaid (path ps a) → FitsSaid (path qs b) → path_words ps a ≡ path_words qs b → (ps ≡ qs) × (a ≡ b)
 same_path [] [] a b f g e = (refl, decimal_injective a b f.1 g.1 (front_gone (codes "anchor ") (decimal a) (decimal b) e))

@@ -31,7 +31,7 @@ first_digit : (text : List ℕ) (n : ℕ) → n < 2 ^ 64 → text ≡ decimal n 
 first_digit text zero small e first = refl
 first_digit text (suc n) small e first = let above = first_decimal (suc n) (omega arith) small in let is : get_or (decimal (suc n)) 0 0 ≡ 48 = sym (ap (λ z. get_or z 0 0) e) ∙ first in absurd (omega arith)
 
--- no zero stands in front
+-- no zero comes first
 pub no_zero : (text : List ℕ) (n : ℕ) → n < 2 ^ 64 → text ≡ decimal n → 1 < length text → get_or text 0 0 ≡ 48 → ⊥
 no_zero text n small e long first =
     let is = first_digit text n small e first in

@@ -36,7 +36,7 @@ pub no_space : HasNo 32 (codes "anchor")
 no_space = no_more 32 97 (110 ∷ 99 ∷ 104 ∷ 111 ∷ 114 ∷ []) (λ e. absurd (omega arith)) (no_more 32 110 (99 ∷ 104 ∷ 111 ∷ 114 ∷ []) (λ e. absurd (omega arith)) (no_more 32 99 (104 ∷ 111 ∷ 114 ∷ []) (λ e. absurd (omega arith))
     (no_more 32 104 (111 ∷ 114 ∷ []) (λ e. absurd (omega arith)) (no_more 32 111 (114 ∷ []) (λ e. absurd (omega arith)) (no_more 32 114 [] (λ e. absurd (omega arith)) (nowhere 32))))))
 
--- the first word, where another word stands before the same space
+-- the first word, if another word comes before one space
 pub word_is : (q : ℕ) (qs : List ℕ) (a : ℕ) (rest word after : List ℕ) → FitsSaid (path (q ∷ qs) a) → rest ≡ word ++ 32 ∷ after → HasNo 32 word → rest ≡ path_words (q ∷ qs) a → (word ≡ decimal q) × (after ≡ path_words qs a)
 word_is q qs a rest word after fits is none e = seam 32 word (decimal q) after (path_words qs a) none (no_other 32 q fits.0.0 no_digit) (sym is ∙ e ∙ words_on q qs a)
 

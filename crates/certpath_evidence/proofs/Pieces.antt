@@ -1,4 +1,4 @@
--- What stands before and after an octet, and after a word.
+-- What comes before and after an octet, and after a word.
 use Rattle.std.specs.Prelude.{nat_eq}
 use Rattle.std.proofs.Common.{◌≡◌, ◌≢◌, ◌∙◌, sym, ap, refl, ℕ, suc, ◌+◌, ◌-◌, ◌<◌, List, [], ◌∷◌, ◌++◌, length, take, drop, arith, length-append, length-drop, get_or, true, false, Option, Some, None, IfSome, IsSomeAnd, Result, Ok, Err}
 use Rattle.std.specs.List.{All}
@@ -13,7 +13,7 @@ use Rattle.std.proofs.lemmas.List.Elements.{All-head, All-tail, All-cons}
 abbrev pub HasNo : ℕ → List ℕ → Type 0
 HasNo octet octets = All (λ o. o ≢ octet) octets
 
--- what stands after the octet at a place, as a slice takes it
+-- what comes after the octet at a place, as a slice takes it
 pub split_there : (text : List ℕ) (octet k : ℕ) → k < length text → ((d : ℕ) → get_or text k d ≡ octet) → text ≡ take k text ++ octet ∷ take (length text - (k + 1)) (drop (k + 1) text)
 split_there text octet k lt is =
     let next : suc k ≡ k + 1 = omega arith in
@@ -29,7 +29,8 @@ abbrev pub tail : {X : Type 0} → List X → List X
 tail [] = []
 tail (x ∷ xs) = xs
 
--- what two texts without the octet stand before, where it is next in both
+-- two fronts without the octet of one text, the octet coming next, are equal, and so is what comes
+-- after
 pub seam : (octet : ℕ) (k l x y : List ℕ) → HasNo octet k → HasNo octet l → k ++ octet ∷ x ≡ l ++ octet ∷ y → (k ≡ l) × (x ≡ y)
 seam octet [] [] x y p q e = (refl, ap tail e)
 seam octet [] (b ∷ l) x y p q e = absurd (All-head (λ o. o ≢ octet) b l q (sym (ap (head 0) e)))
@@ -57,7 +58,7 @@ pub stripped_only : {X : Type 0} (now : X → List ℕ) (text word : List ℕ) (
 stripped_only now text word None h rest e = absurd (other_text (take (length word) text) word (sym h) (ap (take (length word)) e ∙ take-append_seam word rest))
 stripped_only now text word (Some x) h rest e = h.1 ∙ ap (drop (length word)) e ∙ drop-append_seam word rest
 
--- where the word doesn't begin the text
+-- if the word doesn't begin the text
 pub none_begins : {X : Type 0} (now : X → List ℕ) (text word : List ℕ) (r : Option X) → ((rest : List ℕ) → text ≡ word ++ rest → IsSomeAnd r (λ x. now x ≡ rest)) → IfNone r ((rest : List ℕ) → text ≡ word ++ rest → ⊥)
 none_begins now text word None only = λ rest e. only rest e
 none_begins now text word (Some x) only = tt

@@ -1,4 +1,4 @@
--- Which line may stand after the lines of what is told so far.
+-- Which line may come after the lines so far.
 use Rattle.std.proofs.Common.{◌≡◌, ◌≢◌, ◌∙◌, sym, ap, ℕ, List, [], ◌∷◌, ◌++◌, length, map, arith, append_assoc, inl, inr, ◌⊎◌}
 use Rattle.std.specs.List.{flat_map, AllByRecursion}
 use Rattle.std.proofs.lemmas.List.{append-nil, map-append}
@@ -29,11 +29,11 @@ first_of {x} {y} {xs} {ys} e = ap (head x) e
 pub not_none : {x : List ℕ} {xs : List (List ℕ)} → x ∷ xs ≡ [] → ⊥
 not_none e = absurd (omega (arith, ap length e))
 
--- a line that begins a row, or tells a change
+-- a line that begins a row, or holds a change
 abbrev IsOfRows : List ℕ → Type 0
 IsOfRows line = (line ≡ row_line) ⊎ ((c : Change) × FitsChange c × (line ≡ change_line c))
 
--- a line that begins a row, or tells a verdict
+-- a line that begins a row, or holds a verdict
 abbrev IsOfVerdicts : List ℕ → Type 0
 IsOfVerdicts line = (line ≡ row_line) ⊎ ((s : Said) × FitsSaid s × (line ≡ verdict_line s))
 

@@ -7,12 +7,13 @@ ghost use Rattle.certpath_evidence.specs.Answers.{AnswersEvidence, HasFirstBad, 
 ghost use Rattle.certpath_evidence.specs.Evidence.{Told, Fits, evidence};
 ghost use Rattle.certpath_evidence.specs.Examples.{three_verdicts};
 
-/// Equal texts are written of inventories that say the same.
+/// Equal texts are written of inventories that agree.
 pub fn one_inventory()
     ensures { (told other : Told) → Fits told → Fits other → evidence told ≡ evidence other → told ≡ other }
 {}
 
-/// What is written of an inventory is read back: `read_evidence` returns one that says the same, or that memory ran out.
+/// What is written of an inventory is read back: `read_evidence` returns one that agrees with it,
+/// or that memory ran out.
 pub fn written_is_read()
     ensures { (told : Told) (answer : Result Inventory EvidenceError) → Fits told → AnswersEvidence (evidence told) answer → IsReadBack told answer }
 {}

@@ -1,4 +1,4 @@
-//! Pieces of a text: what stands before and after an octet, and after a word.
+//! Pieces of a text: what comes before and after an octet, and after a word.
 
 ghost use Rattle.std.specs.Prelude.{◌≡◌, ◌≢◌, ◌<◌, ◌∷◌, ◌++◌, ℕ, List, All, IfSome, IfNone, IsSomeAnd, length, slice_index_or};
 
@@ -17,7 +17,7 @@ fn place_of(text: &[u8], octet: u8) -> Option<usize>
     None
 }
 
-/// What stands before the first such octet, and what stands after it.
+/// What comes before the first such octet, and what comes after it.
 pub(crate) fn split_once(text: &[u8], octet: u8) -> Option<(&[u8], &[u8])>
     ensures found { IfSome result (λ r. text.now ≡ r.0.now ++ octet ∷ r.1.now) }
     ensures first { IfSome result (λ r. All (λ o. o ≢ octet) r.0.now) }
@@ -27,7 +27,7 @@ pub(crate) fn split_once(text: &[u8], octet: u8) -> Option<(&[u8], &[u8])>
     Some((&text[..place], &text[place + 1..]))
 }
 
-/// What stands after a word that the text begins with.
+/// What comes after a word that the text begins with.
 pub(crate) fn after_word<'a>(text: &'a [u8], word: &[u8]) -> Option<&'a [u8]>
     ensures found { IfSome result (λ r. text.now ≡ word.now ++ r.now) }
     ensures only { (rest : List ℕ) → text.now ≡ word.now ++ rest → IsSomeAnd result (λ r. r.now ≡ rest) }

@@ -12,7 +12,7 @@ fn is_digits(octets: &[u8]) -> bool
     octets.iter().all(|octet| octet.is_ascii_digit())
 }
 
-/// The octets as text, where they are decimal digits of ASCII.
+/// The octets as text, if they are decimal digits of ASCII.
 fn digits_of(octets: &[u8]) -> Option<&str>
     ensures found { IfSome result (λ digits. digits.now ≡ octets.now) }
     ensures digits { IfSome result (λ digits. AllByRecursion IsAsciiDigit digits.now) }
@@ -24,7 +24,7 @@ fn digits_of(octets: &[u8]) -> Option<&str>
     str::from_utf8(octets).ok()
 }
 
-/// Whether a zero stands in front of other octets.
+/// Whether a zero comes before other octets.
 fn has_zero_in_front(octets: &[u8]) -> bool
     ensures { IsTrue result ↔ ((1 < length octets.now) × (slice_index octets.now 0 ≡ 48)) }
 {
@@ -43,7 +43,7 @@ pub(crate) fn number_of(octets: &[u8]) -> Option<usize>
     digits.parse::<usize>().ok()
 }
 
-/// `number_of`, where it is below 2^32.
+/// `number_of`, if it is below 2^32.
 pub(crate) fn limit_of(octets: &[u8]) -> Option<u32>
     ensures found { IfSome result (λ n. (n < 2 ^ 32) × (octets.now ≡ decimal n)) }
     ensures only { (n : ℕ) → n < 2 ^ 32 → octets.now ≡ decimal n → result ≡ Some n }

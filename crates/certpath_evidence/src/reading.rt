@@ -32,8 +32,8 @@ pub enum EvidenceError {
 /// The inventory that a text was written of, by `write_evidence`: no other text is accepted, so there is one for each inventory.
 /// Whether the inventory is true is no part of this: `certcheck::check_all` says it.
 ///
-/// `BadLine` with the number of the first bad line; `OutOfMemory` where a line found no room, whatever stands after it. It costs
-/// one pass over the text, and keeps no more than the inventory.
+/// `BadLine` with the number of the first bad line; `OutOfMemory` if a line found no room, whatever
+/// comes after it. It costs one pass over the text, and keeps no more than the inventory.
 pub fn read_evidence(alloc: Global, text: &[u8]) -> Result<Inventory, EvidenceError>
     ensures { AnswersEvidence text.now result }
 {
@@ -57,7 +57,7 @@ pub fn read_evidence(alloc: Global, text: &[u8]) -> Result<Inventory, EvidenceEr
     Ok(inventory)
 }
 
-/// What stands after the first line, where that is the one that names the format.
+/// What comes after the first line, if that is the one that names the format.
 fn after_header(text: &[u8]) -> Option<&[u8]>
     ensures found { IfSome result (λ r. text.now ≡ header ++ line_feed ∷ r.now) }
     ensures none { IfNone result ((after : List ℕ) → text.now ≡ header ++ line_feed ∷ after → ⊥) }

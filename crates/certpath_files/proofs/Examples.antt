@@ -87,7 +87,8 @@ pem_file : file_rows (codes "subject" ++ feed ++ codes "-----BEGIN CERTIFICATE--
 unfolding header_at strict_at identity_at length_at base64_on_literals
 pem_file = refl
 
--- a block of an unknown label, a key as a certificate, a list with an octet after it, behind a byte order mark
+-- a block of an unknown label, a key as a certificate, a list with an octet after it, after a byte
+-- order mark
 odd_file : file_rows (239 ∷ 187 ∷ 191 ∷ [] ++ codes "-----BEGIN SECRET-----" ++ feed ++ codes "MBACAQAwBQYDK2VwBATerb7v" ++ feed ++ codes "-----END SECRET-----" ++ feed ++ codes "-----BEGIN CERTIFICATE-----" ++ feed ++ codes "MBACAQAwBQYDK2VwBATerb7v" ++ feed ++ codes "-----END CERTIFICATE-----" ++ feed ++ codes "-----BEGIN X509 CRL-----" ++ feed ++ codes "MA0wBjAAMAAXADAAAwEAMA==" ++ feed ++ codes "-----END X509 CRL-----" ++ feed)
     ≡ left_out (at (block 1 None)) unknown_label ∷ left_out (at (block 4 (Some (codes "CERTIFICATE")))) no_item
     ∷ item (at (block 7 (Some (codes "X509 CRL")))) list revoked ∷ left_out (at (block 7 (Some (codes "X509 CRL")))) (behind 1) ∷ []

@@ -27,7 +27,7 @@ no_pass f m n e = cc
 one_whole : (m n : ℕ) → whole m ≡ whole n → m ≡ n
 one_whole m n e = cc
 
--- what the tests of a size say where it is whole
+-- what the tests of a size say if it is whole
 chosen : (a b c : Bool) (f g h : Fault) (m n : ℕ) → (if a then stops f else (if b then passed g m else (if c then whole m else passed h m))) ≡ whole n → (a ≡ false) × (b ≡ false) × (m ≡ n)
 chosen true b c f g h m n e = absurd (no_stop f n e)
 chosen false true c f g h m n e = absurd (no_pass g m n e)

@@ -17,7 +17,7 @@ use Rattle.certpath_files.specs.Fronts.{Front, whole, passed, stops, no_sequence
 use Rattle.certpath_files.specs.Walks.{walk, go_on}
 use Rattle.certpath_files.specs.Laws.{piece, piece_at, pieces_of}
 
--- a front that takes an octet at least, where its size is known
+-- a front that takes an octet at least, if its size is known
 abbrev pub TakesSome : Front → Type 0
 TakesSome (whole size) = 0 < size
 TakesSome (passed fault size) = 0 < size

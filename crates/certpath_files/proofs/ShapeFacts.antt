@@ -5,7 +5,7 @@ use Rattle.std.proofs.lemmas.Bool.Decides.{nat_tests}
 use Rattle.certpath_files.specs.Parts.{Part, part_at}
 use Rattle.certpath_files.specs.Shapes.{is_none, is_next, begins_with_parts, of_three, signed_content}
 
--- a part is wanted where there is none
+-- a part is wanted if there is none
 pub none_left : (firsts rest : List ℕ) (i : ℕ) → i < length firsts → part_at rest ≡ None → begins_with_parts (drop i firsts) rest ≡ false
 none_left firsts rest i h e =
     ap (λ z. begins_with_parts z rest) (drop-cons firsts i 0 h)

@@ -9,7 +9,7 @@ use Rattle.certpath_files.specs.Rows as rows
 use Rattle.certpath_files.specs.Rows.{Row, Spot, left_out, at}
 use Rattle.certpath_files.specs.Sequences.{Wanted, one_item, signed_data, sequence_rows}
 
--- a label is shown where it is known: another one may be part of a key
+-- a label is shown if it is known: another one may be part of a key
 abbrev pub shown_by : List ℕ → Label → Option (List ℕ)
 shown_by label sources.unknown = None
 shown_by label sources.one_item = Some label

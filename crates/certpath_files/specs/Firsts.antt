@@ -29,7 +29,7 @@ abbrev pub start_rows : Wanted → Bool → Spot → Start → List Row
 start_rows wanted may_go_on spot start = rows_by wanted may_go_on spot start.count start.content
 
 -- the tag of a constructed element of universal class in the high form, which has any number of
--- octets where it isn't the shortest (X.690, 8.1.2.4)
+-- octets if it isn't the shortest (X.690, 8.1.2.4)
 abbrev pub begins_high : List ℕ → Bool
 begins_high [] = false
 begins_high (octet ∷ rest) = octet == 63

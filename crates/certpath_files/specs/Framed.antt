@@ -11,7 +11,7 @@ AreItems [] octets = octets ≡ []
 AreItems (shown_item place kind size ∷ rows) octets = (size ≤ length octets) × IsItem most (take size octets) × AreItems rows (drop size octets)
 AreItems (shown_left_out place reason ∷ rows) octets = AreItems rows octets
 
--- what octets begin with is an item, where it is a whole SEQUENCE
+-- what octets begin with is an item, if it is a whole SEQUENCE
 abbrev pub IsItemIfWhole : Front → List ℕ → Type 0
 IsItemIfWhole (whole size) octets = IsItem most (take size octets)
 IsItemIfWhole (passed fault size) octets = Unit {0}

@@ -46,7 +46,7 @@ abbrev pub by_header : Bool → List ℕ → Head → List ℕ → Front
 by_header is_strict octets h after =
     if is_sequence h then sized is_strict (length octets - length after) h.size (length after) else stops no_sequence
 
--- where no header of definite length begins the octets
+-- if no header of definite length begins the octets
 abbrev pub without_header : List ℕ → Front
 without_header [] = stops no_sequence
 without_header (first ∷ octets) = if first == 48 then stops no_length else stops no_sequence
@@ -62,7 +62,7 @@ by_strict octets (Err e) = by_lenient octets (header_at octets)
 abbrev pub front_of : List ℕ → Front
 front_of octets = by_strict octets (strict_at octets)
 
--- how many octets the front takes, where that is known
+-- how many octets the front takes, if that is known
 abbrev pub size_in : Front → Option ℕ
 size_in (whole size) = Some size
 size_in (passed fault size) = Some size

@@ -11,7 +11,7 @@ is_no_text octet = nat_le octet 8 || (nat_le 14 octet && nat_le octet 31) || (oc
 abbrev pub is_odd : List ℕ → Bool
 is_odd = list_any is_no_text
 
--- the row of a line, where nothing is open and none was reported since the last boundary
+-- the row of a line, if nothing is open and none was reported since the last boundary
 abbrev pub line_rows : Bool → Boundary → List ℕ → ℕ → List Row
 line_rows quiet (begin label) octets number = []
 line_rows quiet (end label) octets number = []

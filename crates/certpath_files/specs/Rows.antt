@@ -11,7 +11,7 @@ pub data Spot : Type 0 where
   octet : ℕ → Spot
   -- the line of this number, from 1
   line : ℕ → Spot
-  -- the block that begins at the line of this number, and its label, where that may be shown
+  -- the block that begins at the line of this number, and its label, if that may be shown
   block : ℕ → Option (List ℕ) → Spot
 
 -- an element of a set of SignedData, by its number there, from 0

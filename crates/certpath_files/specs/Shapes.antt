@@ -25,11 +25,11 @@ abbrev pub after_by : ℕ → List ℕ → Option Part → List ℕ
 after_by first octets None = octets
 after_by first octets (Some part) = if part.first == first then part.rest else octets
 
--- the octets after an element with this first octet, where one begins them
+-- the octets after an element with this first octet, if one begins them
 abbrev pub after_optional : ℕ → List ℕ → List ℕ
 after_optional first octets = after_by first octets (part_at octets)
 
--- version [0], where it is there; serialNumber, signature, issuer, validity, subject,
+-- version [0], if it is there; serialNumber, signature, issuer, validity, subject,
 -- subjectPublicKeyInfo
 abbrev pub is_certificate : List ℕ → Bool
 is_certificate content = begins_with_parts (2 ∷ 48 ∷ 48 ∷ 48 ∷ 48 ∷ 48 ∷ []) (after_optional 160 content)
@@ -38,7 +38,7 @@ is_certificate content = begins_with_parts (2 ∷ 48 ∷ 48 ∷ 48 ∷ 48 ∷ 48
 abbrev pub is_list_after : List ℕ → Bool
 is_list_after parts = begins_with_parts (48 ∷ 48 ∷ 23 ∷ []) parts || begins_with_parts (48 ∷ 48 ∷ 24 ∷ []) parts
 
--- version, where it is there, before them
+-- version, if it is there, before them
 abbrev pub is_list : List ℕ → Bool
 is_list content = is_list_after (after_optional 2 content)
 

@@ -13,14 +13,14 @@ pub record Sets : Type 0 where
 abbrev pub if_first : ℕ → Part → Option Part
 if_first first part = if part.first == first then Some part else None
 
--- the element at the front, where it has this first octet
+-- the element at the front, if it has this first octet
 abbrev pub strict_as : ℕ → List ℕ → Option Part
 strict_as first octets = option_and_then (if_first first) (strict_part_at octets)
 
 abbrev pub if_alone : Part → Option (List ℕ)
 if_alone part = if is_none part.rest then Some part.content else None
 
--- the content of the one element that the octets are, where it has this first octet
+-- the content of the one element that the octets are, if it has this first octet
 abbrev pub only_as : ℕ → List ℕ → Option (List ℕ)
 only_as first octets = option_and_then if_alone (strict_as first octets)
 

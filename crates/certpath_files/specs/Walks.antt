@@ -9,7 +9,7 @@ go_on None after = []
 go_on (Some size) after = after size
 
 -- What octets begin with is said by `front`, and its rows by `rows`, from its offset, its number
--- and the octets from there on. After it the walk goes on, where its size is known. The first
+-- and the octets from there on. After it the walk goes on, if its size is known. The first
 -- number says how many octets are still to be passed over.
 abbrev pub walk : {X : Type 0} → (List ℕ → Front) → (ℕ → ℕ → List ℕ → List X) → ℕ → ℕ → ℕ → List ℕ → List X
 walk front rows skip offset number [] = []

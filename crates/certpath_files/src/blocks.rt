@@ -33,7 +33,7 @@ fn shown_label(label: &[u8]) -> Option<&[u8]>
     }
 }
 
-/// Adds that so many octets are after an item, where there are any and they count.
+/// Adds that so many octets are after an item, if there are any and they count.
 fn leave_after<'a>(
     report: &mut Report<'a>,
     spot: Spot<'a>,

@@ -42,7 +42,7 @@ pub enum Front {
 impl Front {
     ghost use Rattle.certpath_files.specs.Fronts.{size_in};
 
-    /// How many octets the front takes, where that is known.
+    /// How many octets the front takes, if that is known.
     pub fn size(&self) -> Option<usize>
         ensures { result ≡ size_in (front_view self.now) }
     {

@@ -16,7 +16,7 @@ pub enum Spot<'a> {
     Octet(usize),
     /// The line of this number, from 1.
     Line(usize),
-    /// The block that begins at the line of this number, from 1, and its label, where that is a
+    /// The block that begins at the line of this number, from 1, and its label, if that is a
     /// known one. Another label may be part of a key, and is never here.
     Block(usize, Option<&'a [u8]>),
 }
@@ -50,7 +50,7 @@ pub enum Reason {
     /// What begins here is no item, and the so many octets from here on are left out, to the end of
     /// the file or the set.
     ToEnd(Fault, usize),
-    /// It has the shape of neither a certificate nor a revocation list, nor is it SignedData where
+    /// It has the shape of neither a certificate nor a revocation list, nor is it SignedData if
     /// that is taken.
     NoItem,
     /// So many octets after the item of a block.

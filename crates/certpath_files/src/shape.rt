@@ -32,7 +32,7 @@ fn begins_with_parts(firsts: &[u8], octets: &[u8]) -> bool
     true
 }
 
-/// The octets after an element with this first octet, where one begins them.
+/// The octets after an element with this first octet, if one begins them.
 fn after_optional(first: u8, octets: &[u8]) -> &[u8]
     ensures { result.now ≡ after_optional first octets.now }
 {
@@ -86,7 +86,7 @@ fn signed_content(octets: &[u8]) -> Option<&[u8]>
     }
 }
 
-/// What an element is by its shape; none where it has neither. Nothing else of it is tested.
+/// What an element is by its shape; none if it has neither. Nothing else of it is tested.
 pub fn kind_of(octets: &[u8]) -> Option<Kind>
     ensures { option_map kind_view result ≡ kind_of octets.now }
 {

@@ -14,7 +14,7 @@ pub(crate) struct Sets<'a> {
     pub(crate) lists: &'a [u8],
 }
 
-/// The element at the front, where it has this first octet.
+/// The element at the front, if it has this first octet.
 fn strict_as(first: u8, octets: &[u8]) -> Option<Part<'_>>
     ensures { option_map part_view result ≡ strict_as first octets.now }
 {
@@ -26,7 +26,7 @@ fn strict_as(first: u8, octets: &[u8]) -> Option<Part<'_>>
     }
 }
 
-/// The content of the one element that the octets are, where it has this first octet.
+/// The content of the one element that the octets are, if it has this first octet.
 fn only_as(first: u8, octets: &[u8]) -> Option<&[u8]>
     ensures { option_copied result ≡ only_as first octets.now }
 {
@@ -38,7 +38,7 @@ fn only_as(first: u8, octets: &[u8]) -> Option<&[u8]>
     }
 }
 
-/// The element at the front, where it has this first octet, or else one without content before the
+/// The element at the front, if it has this first octet, or else one without content before the
 /// octets.
 fn optional_as(first: u8, octets: &[u8]) -> Part<'_>
     ensures { part_view result ≡ optional_as first octets.now }

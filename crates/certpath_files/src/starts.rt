@@ -52,7 +52,7 @@ fn is_enough(start: &Start) -> bool
 
 /// What a block holds, with as many of its octets as its rows depend on.
 ///
-/// That is all of them where the block begins with a tag in the high form, which no item does: its
+/// That is all of them if the block begins with a tag in the high form, which no item does: its
 /// octets have no bound.
 pub(crate) fn start_of_block(alloc: Global, block: Block<'_>) -> Result<Start, AllocError>
     ensures { IfOk result (λ start. (wanted : Wanted) (may_go_on : Bool) (spot : Spot)

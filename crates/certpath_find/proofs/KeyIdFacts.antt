@@ -76,7 +76,7 @@ read_of s rest content first e p is h =
     let begins = subst (λ z. BeginsWithElement z e rest) (sym is) (strict_begins e rest p) in
     ap (λ (z : Element). z.content) (der_once s rest h.rest e h.element begins h.begins).0 ∙ h.holds
 
--- what stands strictly at the front is read there
+-- what is strictly at the front is read there
 reads : (s rest : List ℕ) (first : ℕ) (after : List ℕ) (e : Element) → IsElement e → s ≡ element_octets e ++ rest → s ≡ first ∷ after → HasContent first s e.content
 reads s rest first after e p is under = record {
   element = e;

@@ -11,7 +11,7 @@ use Rattle.cert_model.specs.Class.{IsCertificateItem}
 use Rattle.cert_search.specs.Inventory.{HasExactTable, IsShortVerdict}
 
 -- an inventory that a search found: adequate, so true; its rows hold exactly how far each issuer
--- leads, its paths are short, and it has no more rows than items where there are items
+-- leads, its paths are short, and it has no more rows than items if there are items
 pub record IsFoundOfAll (g : Graph) (inventory : Inventory) : Type 0 where
   pub adequate : IsAdequateInventory g inventory
   pub holds : IsTrueInventory g inventory

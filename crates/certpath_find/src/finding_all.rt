@@ -38,7 +38,7 @@ pub fn find_all<'a, V: Vouch>(
     ensures exact { IfOk result (λ inventory. HoldsOfItems (rules_by policy.now.moment policy.now.demand_lists (V.vouches_for vouch.now)) items.now.items anchors.now.items (λ g. HasExactTable g (shared_rows g inventory))) }
     // no position is twice in a path, so none has more certificates than there are items
     ensures short { IfOk result (λ inventory. HoldsOfItems (rules_by policy.now.moment policy.now.demand_lists (V.vouches_for vouch.now)) items.now.items anchors.now.items (λ g. All (IsShortVerdict g) inventory.verdicts.items)) }
-    // at least one row, and no more rows than items where there are items
+    // at least one row, and no more rows than items if there are items
     ensures bounded { IfOk result (λ inventory. HoldsOfItems (rules_by policy.now.moment policy.now.demand_lists (V.vouches_for vouch.now)) items.now.items anchors.now.items (λ g. (1 ≤ length inventory.steps.items) × (length inventory.steps.items ≤ max 1 g.items))) }
     // octets that spell a certificate otherwise are never in a path
     ensures spelled { IfOk result (λ inventory. All (VerdictNamesCertificates items.now.items) inventory.verdicts.items) }

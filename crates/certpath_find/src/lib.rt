@@ -1,8 +1,8 @@
 //! Finds the first of the shortest valid certification paths over items, with a table that shows
 //! it.
 //!
-//! Items are read by `TypedReader`, and not as `certcheck::check` reads them, which judges the
-//! answers: the search and the check share no code that reads an item, and this crate uses
+//! Items are read by `TypedReader`, and not as `certcheck::check` reads them, which checks the
+//! result: the search and the check share no code that reads an item, and this crate uses
 //! nothing of `certcheck`.
 #![tactic(auto)]
 

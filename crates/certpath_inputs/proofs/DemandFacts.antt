@@ -1,4 +1,4 @@
--- What holds where nothing is demanded, and where something is.
+-- What holds if nothing is demanded, and if something is.
 use Rattle.std.proofs.Common.{◌≡◌, ℕ, List, Option, Some, None, Result, Ok, Err, IfOk, true, false, subst}
 use Rattle.cert_judge.specs.Vouching.{Vouching}
 use Rattle.cert_serving.specs.declared.permits.Permits.{Permits}

@@ -44,7 +44,7 @@ widest_stays first mid last room size e before same =
     let Q : ℕ → Type 0 = λ n. n ≤ max first size in
     subst P (sym e) (max-le before (subst Q (sym same) (le-max_right first size)))
 
--- the text is what was read, and the piece behind it
+-- the text is what was read, and the piece after it
 pub text_more : {A E : Type 0} (r : Result A E) (before mid after : Option (List ℕ)) (text piece fed new : List ℕ) → Consumes before mid text → Consumes mid after piece → new ≡ (if is_ok r then text ++ fed else text)
     → is_err r ≡ false → fed ≡ piece → Consumes before after new
 text_more (Ok x) before mid after text piece fed new took more is no_err same =

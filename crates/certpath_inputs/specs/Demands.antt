@@ -44,7 +44,7 @@ VouchesWhere permits pairs = restricted_by (are_permitted permits) (are_processe
 abbrev pub ArePermitsOf : Demanded → List (List ℕ) → Permits → Type 0
 ArePermitsOf d items permits = PermitsOf d items (are_permitted permits) × ProcessesFor d (are_processed permits)
 
--- one holds where neither is given, and the other where one of them is
+-- one holds if neither is given, and the other if one of them is
 abbrev pub IfNeither : {A B : Type 0} → Option A → Option B → Type 0 → Type 0 → Type 0
 IfNeither None None P Q = P
 IfNeither None (Some b) P Q = Q

@@ -1,4 +1,5 @@
--- What the reading of a whole input does to its reader. Where a device tells no octets, the relations say of some stream.
+-- What the reading of a whole input does to its reader. If a device's octets are unknown, the
+-- relations hold for some stream.
 use Rattle.std.specs.Prelude.{◌≡◌, ℕ, ◌+◌, List, Option, Result, Ok, Err}
 use Rattle.std.specs.Io.KnownBytes.{Consumes, IsAtEnd}
 use Rattle.cert_framing.specs.declared.ending.End.{End}
@@ -33,7 +34,8 @@ failed_reads (Err Read) = 1
 failed_reads (Err TooLong) = 0
 failed_reads (Err OutOfMemory) = 0
 
--- between these two counts of ends the reader's end was met once where all was read, and never where reading stopped before it
+-- between these two counts of ends the reader's end was met once if all was read, and never if
+-- reading stopped before it
 abbrev pub MeetsEnd : {A : Type 0} → ℕ → ℕ → Result A InputError → Type 0
 MeetsEnd before after (Ok x) = after ≡ before + 1
 MeetsEnd before after (Err e) = after ≡ before

@@ -46,7 +46,7 @@ impl<'a> Demand<'a> {
         }
     }
 
-    /// A purpose, where one is given, and no host.
+    /// A purpose, if one is given, and no host.
     pub fn for_purpose(purpose: Option<AskedPurpose<'a>>) -> Demand<'a>
         ensures { result ≡ of_purpose purpose.entry }
     {
@@ -64,7 +64,7 @@ impl<'a> Demand<'a> {
     }
 }
 
-/// The octets of the item at a place; none where no item has this place.
+/// The octets of the item at a place; none if no item has this place.
 fn octets_at(items: &Items, place: usize) -> &[u8]
     ensures { result.now ≡ target_octets items.now.items place }
 {
@@ -118,7 +118,7 @@ pub fn permits_of<'a>(
     Permits::new(alloc, items, &demands)
 }
 
-/// Appends a line for a purpose, where there is one. The only error is out of memory.
+/// Appends a line for a purpose, if there is one. The only error is out of memory.
 pub fn push_purpose(text: &mut String, purpose: &Option<AskedPurpose<'_>>) -> Result<(), AllocError>
     ensures { OnOk result (string_bytes text.new ≡ string_bytes text.old ++ purpose_line purpose.now) }
 {
@@ -143,7 +143,7 @@ fn push_host(text: &mut String, host: &Option<AskedHost<'_>>) -> Result<(), Allo
     }
 }
 
-/// Appends a line for the purpose and one for the host, each where it is demanded. The only error is
+/// Appends a line for the purpose and one for the host, each if it is demanded. The only error is
 /// out of memory.
 pub fn push_demand(text: &mut String, demand: &Demand<'_>) -> Result<(), AllocError>
     ensures { OnOk result (string_bytes text.new ≡ string_bytes text.old ++ demand_lines demand.now) }

@@ -80,9 +80,10 @@ fn vouchers_of(pairs: VoucherReader) -> Result<Vouchers, RunError>
 
 /// Reads bundle, anchors and vouchers, in this order, each to its end; the items have at most `limit` content octets.
 ///
-/// `Read` and `TooLong` name the input; where one is refused, those after it are not read. `BadLine` has the number of the first bad
-/// line of the vouchers, from 1. Items are framed and not read: that costs one pass over the octets, and keeps them.
-/// Of the vouchers' text the pairs are kept, and one line at most.
+/// `Read` and `TooLong` name the input; if one is refused, those after it are not read. `BadLine`
+/// has the number of the first bad line of the vouchers, from 1. Items are framed and not read:
+/// that costs one pass over the octets, and keeps them. Of the vouchers' text the pairs are kept,
+/// and one line at most.
 pub fn read_inputs<B: Source, A: Source, V: Source>(
     alloc: Global,
     bundle: &mut B,

@@ -1,4 +1,4 @@
--- Lines in which the words of a boundary stand, and lines without a hyphen.
+-- Lines that have the words of a boundary, and lines without a hyphen.
 use Rattle.std.proofs.Common.{◌≡◌, ◌∙◌, sym, ap, refl, ℕ, ◌==◌, Bool, true, false, List, [], ◌∷◌, ◌++◌, length, take, drop, codes, Option, Some, None, inl, inr, ◌⊎◌}
 use Rattle.std.specs.Prelude.{◌||◌, if◌then◌else◌, bytes_eq, option_and_then}
 use Rattle.std.specs.List.{list_any}

@@ -27,7 +27,7 @@ encoded_length o =
     let both = length-append (encode_symbols standard.encode_table o) (replicate (padding_len (length o)) 61) in
     omega (arith, symbols, padding, both)
 
--- two lists that are one, cut at the same place
+-- two lists that are one, cut at one place
 same_fronts : (a b x y : List ℕ) → a ++ b ≡ x ++ y → length a ≡ length x → (a ≡ x) × (b ≡ y)
 same_fronts a b x y e n = (
   sym (take_at a b (length x) n) ∙ ap (take (length x)) e ∙ take_at x y (length x) refl,
@@ -111,13 +111,13 @@ kept_more limit o p first e = ap (λ z. z ++ take (limit - length z) p) e ∙ by
         let room : suc n - suc (length (take n s)) ≡ n - length (take n s) = omega arith in
         ap (λ m. a ∷ (take n s ++ take m p)) room ∙ ap (λ z. a ∷ z) (by n s)
 
--- no octets have this encoding, where its last piece is none
+-- no octets have this encoding, if its last piece is none
 pub no_last : (o p symbols : List ℕ) → length o % 3 ≡ 0 → symbols ≡ encoded o ++ p → p ≢ [] → NoEncoding p → NoEncoding symbols
 no_last o p symbols g e some none b bytes f =
     let parts = cut b (encoded o) p (length o / 3) (sym f ∙ e) (whole_length o g) some in
     none (drop (3 * (length o / 3)) b) (bytes_drop (3 * (length o / 3)) b bytes) parts.rest
 
--- nor where a piece before the last one is none, or ends within a group
+-- nor if a piece before the last one is none, or ends within a group
 after_cut : (o p s symbols b : List ℕ) (k : ℕ) → length o % 3 ≡ 0 → symbols ≡ encoded o ++ (p ++ s) → length p ≡ 4 * k → s ≢ [] → symbols ≡ encoded b → IsBytes b
     → (c : List ℕ) × IsBytes c × IsCut c p s k
 after_cut o p s symbols b k g e n some f bytes =

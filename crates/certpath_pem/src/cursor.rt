@@ -23,7 +23,7 @@ pub struct Block<'a> {
 pub enum Entry<'a> {
     /// A block.
     Block(Block<'a>),
-    /// The number of an END line, where no block of its label is open.
+    /// The number of an END line, if no block of its label is open.
     StrayEnd(usize),
     /// The number of a line in which `-----BEGIN` or `-----END` is, and which neither begins nor
     /// ends a block.
@@ -46,7 +46,7 @@ impl<'a> Cursor<'a> {
     ghost use Rattle.certpath_pem.specs.Blocks.{entries_of, entries_from};
     ghost use Rattle.certpath_pem.specs.Views.{entry_view, entries_left};
 
-    /// The entries of the lines of a rest, the first of which has this number, where a block of
+    /// The entries of the lines of a rest, the first of which has this number, if a block of
     /// this label is open.
     pub(crate) fn at(rest: &'a [u8], number: usize, opened: Option<&'a [u8]>) -> Cursor<'a>
         requires { number + length rest.now < 2 ^ 64 }

@@ -18,7 +18,7 @@ use std::alloc::{AllocError, Global};
 const PIECE: usize = 4096;
 
 /// Copies the next symbols into a piece, without the white space between them, until it is full.
-/// Returns how many they are, and the octets from the next symbol on; none where it was the last.
+/// Returns how many they are, and the octets from the next symbol on; none if it was the last.
 fn next_symbols<'a>(text: &'a [u8], piece: &mut [u8; PIECE]) -> (usize, &'a [u8])
     ensures within { result.0 ≤ PIECE }
     ensures symbols { filter is_symbol text.now ≡ take result.0 piece.new ++ filter is_symbol result.1.now }

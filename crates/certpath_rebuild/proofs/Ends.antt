@@ -1,4 +1,4 @@
--- Octets at the end of others, and what stands before them.
+-- Octets at the end of others, and what comes before them.
 use Rattle.std.proofs.Common.{arith, ◌≡◌, ◌∙◌, sym, ap, subst, ℕ, ◌+◌, ◌-◌, true, false, List, [], ◌∷◌, ◌++◌, append_assoc, append-nil, drop, length, length-append, take, flat_map, Bool, Option, Some, None, Bor}
 use Rattle.std.specs.Prelude.{nat_eq, MatchOption}
 use Rattle.std.specs.Cmp.Lexicographic.{pointwise}
@@ -11,7 +11,7 @@ use Rattle.std.proofs.lemmas.Slice.Eq.{bytes_eq-Decides}
 abbrev pub EndsWithout : List ℕ → List ℕ → Type 0
 EndsWithout whole octets = (front : List ℕ) → whole ≡ front ++ octets → ⊥
 
--- what is answered: what stands before the octets, or none
+-- what is returned: what comes before the octets, or none
 abbrev pub Finds : List ℕ → List ℕ → Option (Bor (List ℕ)) → Type 0
 Finds whole octets r = MatchOption r (EndsWithout whole octets) (λ front. whole ≡ front.now ++ octets)
 
@@ -53,7 +53,7 @@ pub finds_both : (whole left xs ys : List ℕ) (r : Option (Bor (List ℕ))) →
 finds_both whole left xs ys None last without = no_first whole left xs ys last without
 finds_both whole left xs ys (Some x) last first = last ∙ ap (λ z. z ++ ys) first ∙ append_assoc x.now xs ys
 
--- the parts behind this one were there, and this one isn't
+-- the parts after this one were there, and this one isn't
 pub no_part : {A : Type 0} (f : A → List ℕ) (all rest ahead : List A) (part : A) (whole left taken : List ℕ) →
     whole ≡ left ++ taken → flat_map f rest ++ taken ≡ flat_map f all → rest ≡ ahead ++ part ∷ [] → EndsWithout left (f part) → EndsWithout whole (flat_map f all)
 no_part f all rest ahead part whole left taken is parts last without =

@@ -17,7 +17,7 @@ pub one_more : (a b c : Option (List ℕ)) (l m n : ℕ) (xs ys : List ℕ) (r :
 one_more a b c l m n xs ys (Ok tt) p q = record { ok = appends_two a b c xs ys p.ok q.ok; err = tt; failures = omega (arith, p.failures, q.failures) }
 one_more a b c l m n xs ys (Err e) p q = record { ok = tt; err = front_second a b c xs ys p.ok q.err; failures = omega (arith, p.failures, q.failures) }
 
--- the same octets
+-- equal octets are written alike
 pub same_octets : (a b : Option (List ℕ)) (m n : ℕ) (xs ys : List ℕ) (r : Answered) → xs ≡ ys → Puts a b m n xs r → Puts a b m n ys r
 same_octets a b m n xs ys r is p = subst (λ z. Puts a b m n z r) is p
 

@@ -122,7 +122,7 @@ impl<'a> Encode for EntryFields<'a> {
     }
 }
 
-// Nothing where there is no entry (RFC 5280, 5.1.2.6).
+// Nothing if there is no entry (RFC 5280, 5.1.2.6).
 #[tactic(auto, using(crate::proofs::Spelled::entries_spelled))]
 fn entries<'a>(fields: &'a [EntryFields<'a>]) -> Entries<'a>
     ensures { ⟦<Entries<'a> as Encode>⟧.octets result ≡ entries_octets (map entry_view fields.now) }

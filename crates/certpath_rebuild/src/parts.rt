@@ -116,7 +116,7 @@ pub(crate) fn key<'a>(field: KeyField<'a>) -> Key<'a>
     sequence(Both(algorithm(field.algorithm), bits(field.key)))
 }
 
-/// Extensions, or nothing where there is none.
+/// Extensions, or nothing if there is none.
 #[tactic(auto, using(crate::proofs::Spelled::extensions_spelled))]
 pub(crate) fn extensions<'a>(fields: &'a [ExtField<'a>]) -> Option<Extensions<'a>>
     ensures { ⟦<Option<Extensions<'a>> as Encode>⟧.octets result ≡ several_octets extensions_octets (map ext_view fields.now) }
@@ -197,7 +197,7 @@ impl<'a> Encode for Vec<AttrField<'a>> {
     }
 }
 
-// BOOLEAN DEFAULT FALSE: nothing where false (X.690, 11.1 and 11.5)
+// BOOLEAN DEFAULT FALSE: nothing if false (X.690, 11.1 and 11.5)
 fn critical(critical: bool) -> Option<Element<Octet>>
     ensures { ⟦<Option<Element<Octet>> as Encode>⟧.octets result ≡ flag_octets critical }
 {

@@ -20,7 +20,7 @@ use Rattle.certpath_recheck.specs.Uses.{AreUsesAt, UseRecheckReaders, IsOfEviden
 unused : (s : Counts) → Used unread s s
 unused s = record { reads = refl; failures = omega arith; ends = omega arith; widest = le-max_left s.widest 65536 }
 
--- where bundle, anchors or vouchers end the run, the evidence isn't read
+-- if bundle, anchors or vouchers end the run, the evidence isn't read
 run_uses_at : (A : Type 0) (e : RunError) (b a v : Use) → e ≢ runs.Write → AreUses {A = A} (Err e) b a v → AreUsesAt {A = RunError} (Err e) b a v unread
 run_uses_at A (runs.Read i) b a v n u = (u, refl)
 run_uses_at A (runs.TooLong i) b a v n u = (u, refl)
@@ -41,7 +41,7 @@ run_uses {A} e b b' a a' v v' s n h = record {
   evidence_used = unused s;
 }
 
--- where the evidence has a bad line, or memory for it is refused
+-- if the evidence has a bad line, or memory for it is refused
 pub evidence_uses : {I : Type 0} (i : I) (purpose : Option AskedPurpose) (text : List ℕ) (e : RecheckError) (b b' a a' v v' s s' : Counts) → RefusesEvidence purpose text e → UseReaders (Ok i) b b' a a' v v' → Used whole s s' → UseRecheckReaders {A = Bool} (Err e) b b' a a' v v' s s'
 evidence_uses i purpose text Read b b' a a' v v' s s' o h u = absurd o
 evidence_uses i purpose text TooLong b b' a a' v v' s s' o h u = absurd o
@@ -79,7 +79,7 @@ evidence_uses i purpose text (Run error) b b' a a' v v' s s' o h u = record {
   evidence_used = u;
 }
 
--- and where all is read
+-- and if all is read
 pub said_uses : {I : Type 0} (i : I) (said : Bool) (b b' a a' v v' s s' : Counts) → UseReaders (Ok i) b b' a a' v v' → Used whole s s' → UseRecheckReaders {A = Bool} (Ok said) b b' a a' v v' s s'
 said_uses i said b b' a a' v v' s s' h u = record {
   b = h.b;

@@ -1,4 +1,5 @@
--- What a run that checks evidence does to its readers and its writer. Where a device tells no octets, the relations say of some stream. This page is to be believed.
+-- What a run that checks evidence does to its readers and its writer. If a device's octets are
+-- unknown, the relations hold for some stream. This page is to be believed.
 use Rattle.std.specs.Prelude.{◌≡◌, ◌≢◌, ◌↔◌, ℕ, ◌+◌, Bool, List, ◌++◌, length, codes, Option, Some, None, IsTrue}
 use Rattle.std.specs.Io.KnownBytes.{Appends}
 use Rattle.asn1_device.specs.Counts.{AppendsFront}
@@ -20,7 +21,8 @@ use Rattle.certpath_inputs.specs.declared.settings.AllSettings.{AllSettings}
 use Rattle.certpath_recheck.specs.declared.rechecking.RecheckError.{RecheckError}
 use Rattle.certpath_recheck.specs.declared.rechecking.RecheckError.TheVariants.{Run, Read, TooLong, BadLine, OtherPurpose}
 
--- what is said of an inventory: yes exactly where its one table shows each of its verdicts, by the classes of items and anchors; and then each is true
+-- what is said of an inventory: yes exactly if its one table shows each of its verdicts, by the
+-- classes of items and anchors; and then each is true
 pub record IsSaidOf (r : JudgingContext) (items anchors : Framed) (inventory : Inventory) (said : Bool) : Type 0 where
   pub classed : List Item
   pub classed_anchors : List Item
@@ -29,7 +31,8 @@ pub record IsSaidOf (r : JudgingContext) (items anchors : Framed) (inventory : I
   pub exact : IsTrue said ↔ IsAdequateInventory (graph_of_items r classed classed_anchors) inventory
   pub holds : IsTrue said → IsTrueInventory (graph_of_items r classed classed_anchors) inventory
 
--- the same by the rules of these settings, under which these pairs vouch; where a purpose is demanded of the paths, for the items that allow it
+-- what is said of an inventory by the rules of these settings, under which these pairs vouch; if a
+-- purpose is demanded of the paths, for the items that allow it
 abbrev pub IsSaidFor : AllSettings → Option AskedPurpose → Framed → Framed → Vouchers → Inventory → Bool → Type 0
 IsSaidFor settings purpose items anchors pairs inventory said =
     HoldsFor (of_purpose purpose) items.items (length items.items) pairs (λ vouches. IsSaidOf (rules_by settings.policy.moment settings.policy.demand_lists vouches) items anchors inventory said)
@@ -47,7 +50,7 @@ abbrev pub HasFirstBadFor : Option AskedPurpose → List ℕ → ℕ → Type 0
 HasFirstBadFor None text number = HasFirstBad text number
 HasFirstBadFor (Some purpose) text number = (rest : List ℕ) × (after : ℕ) × (text ≡ purpose_line (Some purpose) ++ rest) × HasFirstBad rest after × (number ≡ after + 1)
 
--- evidence for another purpose: for one where none is asked for, or not for the one that is asked for
+-- evidence for another purpose: for one if none is asked for, or not for the one that is asked for
 abbrev pub IsForOther : Option AskedPurpose → List ℕ → Type 0
 IsForOther None text = (rest : List ℕ) × (text ≡ codes "purpose " ++ rest)
 IsForOther (Some purpose) text = (rest : List ℕ) → text ≢ purpose_line (Some purpose) ++ rest
@@ -94,7 +97,8 @@ pub record MeetsOther (purpose : Option AskedPurpose) (bundle bundle' anchors an
   pub shown_read : ReadsAll evidence evidence' shown
   pub is_other : IsForOther purpose shown
 
--- an error of a bad line comes where vouchers or evidence have it, and one of another purpose where the evidence is for it; of the others nothing is said here
+-- an error of a bad line comes if vouchers or evidence have it, and one of another purpose if the
+-- evidence is for it; of the others nothing is said here
 abbrev pub MeetsRecheckRefusalFor : Option AskedPurpose → Option (List ℕ) → Option (List ℕ) → Option (List ℕ) → Option (List ℕ) → Option (List ℕ) → Option (List ℕ) → Option (List ℕ) → Option (List ℕ) → ℕ → RecheckError → Type 0
 MeetsRecheckRefusalFor purpose bundle bundle' anchors anchors' vouchers vouchers' evidence evidence' limit (Run e) = MeetsRefusal bundle bundle' anchors anchors' vouchers vouchers' limit e
 MeetsRecheckRefusalFor purpose bundle bundle' anchors anchors' vouchers vouchers' evidence evidence' limit Read = Unit {0}
@@ -102,7 +106,7 @@ MeetsRecheckRefusalFor purpose bundle bundle' anchors anchors' vouchers vouchers
 MeetsRecheckRefusalFor purpose bundle bundle' anchors anchors' vouchers vouchers' evidence evidence' limit (BadLine n) = MeetsBadEvidence purpose bundle bundle' anchors anchors' vouchers vouchers' evidence evidence' limit n
 MeetsRecheckRefusalFor purpose bundle bundle' anchors anchors' vouchers vouchers' evidence evidence' limit OtherPurpose = MeetsOther purpose bundle bundle' anchors anchors' vouchers vouchers' evidence evidence' limit
 
--- where no purpose is asked for
+-- if no purpose is asked for
 abbrev pub WritesRecheck : AllSettings → Option (List ℕ) → Option (List ℕ) → Option (List ℕ) → Option (List ℕ) → Option (List ℕ) → Option (List ℕ) → Option (List ℕ) → Option (List ℕ) → Option (List ℕ) → Option (List ℕ) → Bool → Type 0
 WritesRecheck settings = WritesRecheckFor settings None
 

@@ -12,7 +12,8 @@ use Rattle.certpath_recheck.specs.declared.rechecking.RecheckError.TheVariants.{
 abbrev pub AreWhole : Use → Use → Use → Type 0
 AreWhole b a v = (b ≡ whole) × (a ≡ whole) × (v ≡ whole)
 
--- how all four were used where an error that isn't of the evidence ended the run: before the evidence was read, or behind it
+-- how all four were used if an error that isn't of the evidence ended the run: before the evidence
+-- was read, or after it
 abbrev pub AreUsesAt : {A : Type 0} → Result A RunError → Use → Use → Use → Use → Type 0
 AreUsesAt (Ok x) b a v e = AreWhole b a v × (e ≡ whole)
 AreUsesAt (Err (runs.Read i)) b a v e = AreUses {A = RunError} (Err (runs.Read i)) b a v × (e ≡ unread)
@@ -59,7 +60,7 @@ IsOfEvidence (BadLine n) = ⊥
 IsOfEvidence OtherPurpose = ⊥
 IsOfEvidence (Run error) = error ≡ runs.OutOfMemory
 
--- a text of evidence is refused for its purpose, for its first bad line, or for want of memory
+-- a text of evidence is refused for its purpose, for its first bad line, or for lack of memory
 abbrev pub RefusesEvidence : Option AskedPurpose → List ℕ → RecheckError → Type 0
 RefusesEvidence purpose text Read = ⊥
 RefusesEvidence purpose text TooLong = ⊥

@@ -93,7 +93,7 @@ fn purposed_inventory(
     }
 }
 
-/// The inventory that the text was written of, where it is for the purpose that is asked for.
+/// The inventory that the text was written of, if it is for the purpose that is asked for.
 pub(crate) fn inventory_for(
     alloc: Global,
     purpose: Option<AskedPurpose<'_>>,

@@ -76,8 +76,9 @@ fn said_of_all<B: Source, A: Source, V: Source, E: Source>(
 /// says of the inventory that the evidence was written of: `check yes` or `check no`. It returns which.
 ///
 /// Nothing is searched. Nothing is written before all is read and checked; the writer is then flushed once. After `Run(Write)` what was
-/// written is a front of the line, after any other error nothing was written. Where a reader is refused, those after it are not read.
-/// It costs the reading of the four inputs and what `check_all` says.
+/// written is a front of the line, after any other error nothing was written. If a reader is
+/// refused, those after it are not read. It costs the reading of the four inputs and what
+/// `check_all` says.
 pub fn run_recheck<B: Source, A: Source, V: Source, E: Source, W: Sink>(
     alloc: Global,
     bundle: &mut B,
@@ -112,8 +113,9 @@ pub fn run_recheck<B: Source, A: Source, V: Source, E: Source, W: Sink>(
     )
 }
 
-/// Likewise where a purpose may be demanded of each certificate of the paths. `OtherPurpose` where the evidence doesn't begin with the
-/// line of that purpose; the number of a bad line counts it. With `None` it is `run_recheck`.
+/// `run_recheck`, with a purpose that may be demanded of each certificate of the paths.
+/// `OtherPurpose` if the evidence doesn't begin with the line of that purpose; the number of a bad
+/// line counts it. With `None` no purpose is demanded.
 #[tactic(auto, using(crate::proofs::RecheckFacts::no_failed_write, crate::proofs::RecheckFacts::unwritten_uses, crate::proofs::RecheckFacts::refused_uses))]
 pub fn run_recheck_for<B: Source, A: Source, V: Source, E: Source, W: Sink>(
     alloc: Global,

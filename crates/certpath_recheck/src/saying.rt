@@ -52,7 +52,7 @@ fn said_within(
     said_by(alloc, inputs, settings, &restricted, inventory)
 }
 
-/// What the check says of an inventory on the items that were read, where a purpose may be demanded.
+/// What the check says of an inventory on the items that were read, if a purpose may be demanded.
 pub(crate) fn said_of(
     alloc: Global,
     inputs: &Inputs,

@@ -43,7 +43,8 @@ writes_item text text' items k offset item w e more =
           ∙ ap (λ d. offset + length (concat d)) (sym split) ∙ w.sizes;
     }
 
--- likewise with the faults of items: whatever lines follow, all begin with the text
+-- the lines of the items so far, with the faults of items: whatever lines follow, all begin with
+-- the text
 pub record WritesWhy (text : List ℕ) (items : List (List ℕ)) (k offset : ℕ) : Type 0 where
   pub lines : (rest : List ℕ) → AreItemLines k offset (drop k items) rest → AreItemLines 0 0 items (text ++ rest)
   pub sizes : offset + length (concat (drop k items)) ≡ length (concat items)

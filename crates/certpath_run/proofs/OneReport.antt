@@ -45,7 +45,7 @@ path_line positions anchor = codes "path" ++ (position_words positions ++ (codes
 same_path : (ps qs : List ℕ) (a b : ℕ) → ps ≡ qs → a ≡ b → path_line ps a ≡ path_line qs b
 same_path ps qs a b p q = ap (λ (l : List ℕ). path_line l a) p ∙ ap (λ (n : ℕ). path_line qs n) q
 
--- answers that say the same have one line and one kind
+-- answers that agree have one line and one kind
 same_answer : (answer other : Answer) → SayTheSame answer other → (answer_line answer ≡ answer_line other) × (kind_of answer ≡ kind_of other)
 same_answer (Path ps a table) (Path qs b second) s = (same_path ps.items qs.items a b s.0 s.1, refl)
 same_answer (Path ps a table) (NoPath second) s = absurd s
@@ -72,7 +72,7 @@ one_text lines r items anchors target text another outcome other h k =
       h.outcome_is ∙ same.1 ∙ sym k.outcome_is,
     )
 
--- verdicts that say the same have one line, and lack a path both or neither
+-- verdicts that agree have one line, and lack a path both or neither
 same_end : (class : Class) (verdict other : Verdict) → AreOneVerdict verdict other → verdict_end class verdict ≡ verdict_end class other
 same_end class (FirstPath ps a) (FirstPath qs b) s = same_path ps.items qs.items a b s.0 s.1
 same_end class (FirstPath ps a) Pathless s = absurd s
@@ -95,7 +95,7 @@ same_lack NoCertificate (FirstPath qs b) s = refl
 same_lack NoCertificate Pathless s = absurd s
 same_lack NoCertificate NoCertificate s = refl
 
--- lists of verdicts that say the same at each position
+-- lists of verdicts that agree at each position
 abbrev AgreeAtEach : List Verdict → List Verdict → Type 0
 AgreeAtEach vs ws = (target : ℕ) → target < length vs → (d e : Verdict) → AreOneVerdict (get_or vs target d) (get_or ws target e)
 
@@ -186,7 +186,7 @@ permits_alike moment lists d octets p q pairs a b classed = record {
   );
 }
 
--- what follows of two that hold where nothing is demanded, and where something is
+-- what follows of two that hold if nothing is demanded, and if something is
 of_both : {A B : Type 0} {P Q P' Q' Z : Type 0} (a : Option A) (b : Option B) → IfNeither a b P Q → IfNeither a b P' Q' → (P → P' → Z) → (Q → Q' → Z) → Z
 of_both None None h k f g = f h k
 of_both None (Some b) h k f g = g h k

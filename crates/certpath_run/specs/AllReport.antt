@@ -83,7 +83,8 @@ abbrev pub IsAllReportBy : List ℕ → AllSettings → AllOutcome → Inventory
 IsAllReportBy lines settings outcome inventory items anchors text vouches =
     (report : IsAllReportWith lines (rules_by settings.policy.moment settings.policy.demand_lists vouches) items anchors text outcome) × (report.inventory ≡ inventory)
 
--- the text is the report on all items where a purpose is demanded of their paths; the demand has no host, so no item is the target
+-- the text is the report on all items if a purpose is demanded of their paths; the demand has no
+-- host, so no item is the target
 abbrev pub IsAllReportFor : AllSettings → Demand → AllOutcome → Framed → Framed → Vouchers → List ℕ → Type 0
 IsAllReportFor settings demand outcome items anchors pairs text =
     HoldsFor demand items.items (length items.items) pairs (λ vouches. IsAllReportWith (demand_lines demand) (rules_by settings.policy.moment settings.policy.demand_lists vouches) items anchors text outcome)

@@ -1,2 +1,2 @@
--- What `find` answers, for the crates above.
+-- What `find` returns, for the crates above.
 pub use Rattle.certpath_find.specs.Answered.{HoldsOfItems, NamesCertificates}

@@ -1,4 +1,5 @@
--- What a run that asks for signatures does to its readers and its writer. Where a device tells no octets, the relations say of some stream.
+-- What a run that asks for signatures does to its readers and its writer. If a device's octets are
+-- unknown, the relations hold for some stream.
 use Rattle.std.specs.Prelude.{◌≡◌, ◌⊎◌, ℕ, List, Option, Result, Ok, Err}
 use Rattle.std.specs.Io.KnownBytes.{Appends}
 use Rattle.asn1_device.specs.Counts.{AppendsFront}
@@ -25,7 +26,7 @@ pub record AreQuestionsOf (items anchors : Framed) (text : List ℕ) : Type 0 wh
   pub are_questions : AreQuestions classed classed_anchors questions
   pub text_is : text ≡ question_lines questions
 
--- bundle and anchors were read to their ends, and the text has the questions of what stands in them
+-- bundle and anchors were read to their ends, and the text has the questions of what is in them
 pub record HasQuestions (bundle bundle' anchors anchors' : Option (List ℕ)) (limit : ℕ) (text : List ℕ) : Type 0 where
   pub items : Framed
   pub anchor_items : Framed

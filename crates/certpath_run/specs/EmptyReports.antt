@@ -7,7 +7,7 @@ use Rattle.cert_framing.specs.declared.ending.End.TheVariants.{Clean}
 abbrev pub no_items : Framed
 no_items = record { items = []; end = Clean }
 
--- the report on a target where there is no item and no anchor, with the lines of a demand
+-- the report on a target if there is no item and no anchor, with the lines of a demand
 abbrev pub empty_report : List ℕ → List ℕ
 empty_report lines = codes "end clean\nanchors 0 of 0, clean\n" ++ (lines ++ codes "no target\ncheck yes\n")
 

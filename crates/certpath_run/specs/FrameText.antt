@@ -15,7 +15,8 @@ abbrev pub item_lines : ℕ → ℕ → List (List ℕ) → List ℕ
 item_lines k offset [] = []
 item_lines k offset (item ∷ items) = item_line k offset (length item) ++ item_lines (k + 1) (offset + length item) items
 
--- likewise, and of each item that is other a further line with its first fault
+-- a line for each item, from number k at the offset on, and of each item that is other a further
+-- line with its first fault
 abbrev pub AreItemLines : ℕ → ℕ → List (List ℕ) → List ℕ → Type 0
 AreItemLines k offset [] text = text ≡ []
 AreItemLines k offset (item ∷ items) text =

@@ -1,4 +1,5 @@
--- What a run of `frame`, and of `frame_why`, does to its reader and its writer. Where a device has no known octets, the relations speak of some stream.
+-- What a run of `frame`, and of `frame_why`, does to its reader and its writer. If a device's
+-- octets are unknown, the relations hold for some stream.
 use Rattle.std.specs.Prelude.{ℕ, List, Option}
 use Rattle.std.specs.Io.KnownBytes.{Appends}
 use Rattle.asn1_device.specs.Counts.{AppendsFront}

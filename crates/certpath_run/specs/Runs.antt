@@ -1,4 +1,5 @@
--- What a run does to its readers and its writer. Where a device tells no octets, the relations say of some stream.
+-- What a run does to its readers and its writer. If a device's octets are unknown, the relations
+-- hold for some stream.
 use Rattle.std.specs.Prelude.{◌≡◌, ℕ, true, List, [], ◌++◌, Option, None}
 use Rattle.std.specs.Io.KnownBytes.{Appends}
 use Rattle.asn1_device.specs.Counts.{AppendsFront}
@@ -83,7 +84,7 @@ pub record WritesInPart (IsRight : Framed → Framed → Vouchers → List ℕ �
 abbrev pub IsReportOn : Settings → Outcome → Framed → Framed → Vouchers → List ℕ → Type 0
 IsReportOn settings outcome items anchors pairs text = IsReport (rules_by settings.policy.moment settings.policy.demand_lists (VouchesBy pairs)) items anchors settings.target text outcome
 
--- and where a purpose and a host are demanded of its path
+-- and if a purpose and a host are demanded of its path
 abbrev pub IsReportFor : Settings → Demand → Outcome → Framed → Framed → Vouchers → List ℕ → Type 0
 IsReportFor settings demand outcome items anchors pairs text =
     HoldsFor demand items.items settings.target pairs (λ vouches. IsReportWith (demand_lines demand) (rules_by settings.policy.moment settings.policy.demand_lists vouches) items anchors settings.target text outcome)
@@ -95,8 +96,9 @@ IsWhyOn settings outcome items anchors pairs text = IsWhyReport (rules_by settin
 abbrev pub VouchesAnyWhere : Permits → Vouchers → Vouching
 VouchesAnyWhere permits pairs = processing_too (are_processed permits) (VouchesBy pairs)
 
--- And where a purpose and a host are demanded of its path. Without a demand it is as it was; else its links are those of whatever is
--- permitted, and its answer is that over the items that meet the demand.
+-- And if a purpose and a host are demanded of its path. Without a demand it is as it was; else its
+-- links are those of whatever is permitted, and its answer is that over the items that meet the
+-- demand.
 abbrev pub IsWhyReportFor : Settings → Demand → Outcome → Framed → Framed → Vouchers → List ℕ → Type 0
 IsWhyReportFor settings demand outcome items anchors pairs text =
     IfNeither demand.purpose demand.host (IsWhyOn settings outcome items anchors pairs text)

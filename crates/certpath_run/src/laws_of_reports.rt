@@ -30,7 +30,7 @@ pub fn one_report()
     ensures example { (settings : Settings) (pairs : Vouchers) → IsReportOn settings NoTarget no_items no_items pairs (empty_report []) }
 {}
 
-/// They have one report on the target where a purpose and a host may be demanded, whichever permits
+/// They have one report on the target if a purpose and a host may be demanded, whichever permits
 /// the demand is judged by. The example demands any purpose.
 pub fn one_report_for()
     ensures one { (settings : Settings) (demand : Demand) (items anchors : Framed) (pairs : Vouchers) (text another : List ℕ) (outcome other : Outcome)
@@ -46,7 +46,7 @@ pub fn one_report_on_all()
     ensures example { (settings : AllSettings) (pairs : Vouchers) → IsAllReportOn settings Each no_items no_items pairs (empty_report_on_all []) }
 {}
 
-/// They have one report on all items where a purpose may be demanded.
+/// They have one report on all items if a purpose may be demanded.
 pub fn one_report_on_all_for()
     ensures one { (settings : AllSettings) (demand : Demand) (items anchors : Framed) (pairs : Vouchers) (text another : List ℕ) (outcome other : AllOutcome)
         → IsAllReportFor settings demand outcome items anchors pairs text → IsAllReportFor settings demand other items anchors pairs another → (text ≡ another) × (outcome ≡ other) }

@@ -6,7 +6,7 @@ use cert_judge::JudgedItem;
 use cert_vouchers::{RememberedVouchers, Vouchers};
 use std::alloc::Global;
 
-/// Prepares for an item: whoever issued it may vouch for it, and its key for others where it is fit
+/// Prepares for an item: whoever issued it may vouch for it, and its key for others if it is fit
 /// to issue.
 fn expect_item<'a>(remembered: &mut RememberedVouchers<'a>, item: &JudgedItem<'a>)
     ensures { remembered.new.vouchers.now ≡ remembered.old.vouchers.now }

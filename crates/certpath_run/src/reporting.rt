@@ -81,7 +81,7 @@ fn report_within<'a>(
     report_by(alloc, inputs, items, anchors, &restricted, settings, demand)
 }
 
-/// Finds the answer where something may be demanded, checks it, and builds the report.
+/// Finds the answer if something may be demanded, checks it, and builds the report.
 pub(crate) fn report_on(
     alloc: Global,
     inputs: &Inputs,
@@ -203,7 +203,7 @@ fn why_alone<'a>(
     Ok(Reported { text, outcome })
 }
 
-/// Likewise of an answer whose path meets a demand.
+/// The report of `why`, of an answer whose path meets a demand.
 fn why_by<'a, P: Permit>(
     alloc: Global,
     inputs: &'a Inputs,
@@ -249,7 +249,7 @@ fn why_by<'a, P: Permit>(
     Ok(Reported { text, outcome })
 }
 
-/// Likewise by the items that meet the demand.
+/// The report of `why`, by the items that meet the demand.
 fn why_within<'a>(
     alloc: Global,
     inputs: &'a Inputs,

@@ -91,7 +91,7 @@ fn report_all_within<'a>(
     report_all_by(alloc, inputs, items, anchors, &restricted, settings, demand)
 }
 
-/// Finds the paths of all items where a purpose may be demanded, checks them, and builds the
+/// Finds the paths of all items if a purpose may be demanded, checks them, and builds the
 /// report.
 pub(crate) fn report_on_all(
     alloc: Global,

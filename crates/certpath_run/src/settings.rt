@@ -1,4 +1,4 @@
-//! What a run is asked, and what it answers.
+//! What a run is asked, and what it returns.
 
 use cert_judge::Policy;
 

@@ -1,4 +1,4 @@
--- What a comparison tells once all was written, or a write was refused.
+-- What a comparison shows once all was written, or a write was refused.
 use Rattle.std.proofs.Common.{◌≡◌, ◌∙◌, sym, ap, arith, ℕ, ◌<◌, ◌^◌, List, [], ◌++◌, length, Some}
 use Rattle.asn1_core.specs.declared.serialize.SerializeError.{SerializeError}
 use Rattle.asn1_core.specs.declared.serialize.SerializeError.TheVariants.{InvalidLength, IOError}

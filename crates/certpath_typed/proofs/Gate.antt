@@ -1,4 +1,4 @@
--- What the gate tells of an item, and what fields tell that write an object.
+-- What the gate says of an item, and what fields say that write an object.
 use Rattle.std.proofs.Common.{arith, ◌≡◌, ◌∙◌, sym, subst, ℕ, ◌+◌, List}
 use Rattle.der_tree.specs.Object.{IsDerObject}
 use Rattle.der_tree.specs.Shape.{IsObject}

@@ -21,7 +21,7 @@ pub held_more : (whole : List ℕ) (at more : ℕ) (differs wrong : Bool) (other
     held whole more wrong octet ≡ held whole at differs other ++ part
 held_more whole at more differs wrong other octet part is = ap (λ z. length whole ∷ (whole ++ z)) is ∙ ap (λ z. length whole ∷ z) (sym (append_assoc whole (met whole at differs other) part))
 
--- what is held tells what was compared with, and what was written
+-- what is held determines what was compared with, and what was written
 pub apart : (whole item : List ℕ) (m none octets : List ℕ) → none ≡ [] → length whole ∷ (whole ++ m) ≡ (length item ∷ (item ++ none)) ++ octets → (whole ≡ item) × (m ≡ octets)
 apart whole item m none octets empty is =
     let size : length whole ≡ length item = cc in
@@ -29,11 +29,11 @@ apart whole item m none octets empty is =
     let plain : (item ++ none) ++ octets ≡ item ++ octets = ap (λ z. (item ++ z) ++ octets) empty ∙ ap (λ z. z ++ octets) (append-nil item) in
     same_split whole item m octets size (lists ∙ plain)
 
--- what is behind a front
+-- what is after a front
 drop_after : (at : ℕ) (front rest whole : List ℕ) → length front ≡ at → whole ≡ front ++ rest → drop at whole ≡ rest
 drop_after at front rest whole size is = ap (λ (n : ℕ). drop n whole) (sym size) ∙ ap (drop (length front)) is ∙ drop-append_seam front rest
 
--- where an octet differs, what was written doesn't begin the octets
+-- if an octet differs, what was written doesn't begin the octets
 pub never : (item : List ℕ) (at : ℕ) (differs : Bool) (other : ℕ) (left : List ℕ) → differs ≡ true → at ≤ length item → starts_with nat_eq (drop at item) (other ∷ []) ≡ false →
     item ≡ met item at differs other ++ left → ⊥
 never item at differs other left is within test whole =

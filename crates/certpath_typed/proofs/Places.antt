@@ -1,4 +1,4 @@
--- Octets that stand in others.
+-- Octets that are in others.
 use Rattle.std.proofs.Common.{◌≡◌, ◌∙◌, refl, sym, ap, subst, ℕ, ◌≤◌, true, false, ◌||◌, inl, inr, List, [], ◌∷◌, length, take, arith, length-append}
 use Rattle.std.specs.List.{starts_with}
 use Rattle.std.specs.Prelude.{nat_eq}
@@ -6,7 +6,7 @@ use Rattle.std.proofs.Math.Seq.{take-append_seam}
 use Rattle.asn1_oid.proofs.Fronts.{front_from_test}
 use Rattle.certpath_typed.specs.Told.{stand_in, TellsIdentifier}
 
--- not at the front, they stand where they stand behind the first octet
+-- not at the front, they are where they are after the first octet
 pub behind_first : (s after octets : List ℕ) (x : ℕ) → s ≡ x ∷ after → starts_with nat_eq s octets ≡ false → stand_in after octets ≡ stand_in s octets
 behind_first s after octets x is test =
     let here : starts_with nat_eq (x ∷ after) octets ≡ false = subst (λ z. starts_with nat_eq z octets ≡ false) is test in

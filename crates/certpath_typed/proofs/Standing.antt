@@ -1,4 +1,4 @@
--- The identifiers of strict parts stand in their octets.
+-- The identifiers of strict parts are in their octets.
 use Rattle.std.proofs.Common.{◌≡◌, ◌∙◌, refl, sym, ap, ℕ, Bool, true, false, ◌||◌, inl, inr, List, [], ◌∷◌, ◌++◌, append_assoc, append-nil, Option, Some, None, option_map, map, flat_map}
 use Rattle.std.specs.Prelude.{nat_eq}
 use Rattle.std.specs.List.{starts_with, AllZip}
@@ -10,7 +10,7 @@ use Rattle.cert_model.specs.Octets.{identifier_octets, optional_octets, flag_oct
 use Rattle.x509_links.specs.Lenient.{lenient_algorithm, lenient_attribute, lenient_set, lenient_name, lenient_bits, lenient_key, lenient_extension}
 use Rattle.certpath_typed.specs.Told.{stand_in, TellsIdentifier, TellsAlgorithm, TellsAttribute, TellsSet, TellsName, told_bits, TellsKey, TellsExtension, TellsExtensions}
 
--- octets stand somewhere in others
+-- octets are somewhere in others
 pub record Stands (octets s : List ℕ) : Type 0 where
   pub front : List ℕ
   pub back : List ℕ
@@ -45,7 +45,7 @@ stands_behind [] o back = front_stands (o ++ back) o back refl
 stands_behind (x ∷ front) o back =
     ap (λ b. starts_with nat_eq (x ∷ (front ++ (o ++ back))) o || b) (stands_behind front o back) ∙ or_true (starts_with nat_eq (x ∷ (front ++ (o ++ back))) o)
 
--- what stands in the item is told as it is
+-- what is in the item is reported as it is
 pub told_there : (item o told : List ℕ) → Stands o item → TellsIdentifier item o told → told ≡ o
 unfolding TellsIdentifier
 told_there item o told is (inl same) = same
@@ -54,7 +54,7 @@ told_there item o told is (inr none) =
     let not_there : stand_in item o ≡ false = none.0 in
     cc
 
--- what stands in a part stands in the item
+-- what is in a part is in the item
 abbrev pub Lifts : List ℕ → List ℕ → Type 0
 Lifts item part = (o : List ℕ) → Stands o part → Stands o item
 
@@ -90,7 +90,7 @@ attribute_told item a told lift tells =
     let same = told_there item a.identifier told.identifier (lift a.identifier (attribute_stands a)) tells.0 in
     λ i. record { identifier = same i; value = tells.1 i }
 
--- parts one behind the other, each told as it is
+-- parts one after another, each reported as it is
 pub each_told : {X A : Type 0} (item : List ℕ) (write : X → List ℕ) (view : X → A) (tells : A → X → Type 0) → ((x told : X) → Lifts item (write x) → tells (view x) told → told ≡ x)
     → (xs told : List X) → Lifts item (flat_map write xs) → AllZip tells (map view xs) told → told ≡ xs
 each_told item write view tells one [] [] lift all = refl

@@ -30,7 +30,7 @@ list_taken item l small is =
     let under = subst (IsItem 4_294_967_295) (sym is.spelled) is.object.item in
     subst (λ z. CertificateRevocationList IsUnparsed z (lenient_list l) []) (append-nil (list_octets l) ∙ is.spelled) (list_is l [] is.in_range short under)
 
--- a refusal that is not for want of memory
+-- a refusal that is not for lack of memory
 pub refused : (e : Refusal X509Error) → ((x : X509Error) → e ≡ refusals.Failure x → ⊥) → OrMemory e → ⊥
 refused (refusals.Incomplete n) plain is = is
 refused (refusals.Error x) plain is = is

@@ -1,4 +1,4 @@
--- A strict certificate that was read leniently tells its own fields.
+-- A strict certificate that was read leniently has its own fields.
 use Rattle.std.proofs.Common.{◌≡◌, ◌∙◌, refl, ap, subst, ℕ, zero, suc, ◌≤◌, min, true, List, [], ◌++◌, option_map, arith}
 use Rattle.asn1_core.specs.Elements.{Element}
 use Rattle.cert_model.specs.Fields.{Certificate}
@@ -11,7 +11,7 @@ use Rattle.certpath_typed.specs.Told.{TellsAlgorithm, TellsName, told_bits, Tell
 use Rattle.certpath_typed.specs.ToldItems.{TellsCertificate}
 use Rattle.certpath_typed.proofs.Standing.{Stands, Lifts, left, right, within, algorithm_told, name_told, key_told, tagged_told, ids_told}
 
--- the same parts are the same certificate
+-- equal parts are equal certificates
 same_certificate : (a b : Certificate) → a.version ≡ b.version → a.serial ≡ b.serial → a.signature ≡ b.signature → a.issuer ≡ b.issuer → a.not_before ≡ b.not_before → a.not_after ≡ b.not_after
     → a.subject ≡ b.subject → a.key ≡ b.key → a.issuer_id ≡ b.issuer_id → a.subject_id ≡ b.subject_id → a.extensions ≡ b.extensions → a.algorithm ≡ b.algorithm → a.signature_value ≡ b.signature_value → a ≡ b
 same_certificate a b version serial signature issuer not_before not_after subject key issuer_id subject_id extensions algorithm signature_value =

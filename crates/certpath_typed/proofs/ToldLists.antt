@@ -1,4 +1,4 @@
--- A strict revocation list that was read leniently tells its own fields.
+-- A strict revocation list that was read leniently has its own fields.
 use Rattle.std.proofs.Common.{◌≡◌, ◌∙◌, refl, sym, ap, subst, ℕ, min, true, List, [], ◌∷◌, ◌++◌, map, flat_map, Option, Some, None, option_map}
 use Rattle.std.specs.List.{AllByRecursion, AllZip}
 use Rattle.asn1_core.specs.Elements.{Element}
@@ -15,7 +15,7 @@ use Rattle.certpath_typed.specs.Told.{TellsAlgorithm, TellsName, told_bits, Tell
 use Rattle.certpath_typed.specs.ToldItems.{TellsEntry, TellsList}
 use Rattle.certpath_typed.proofs.Standing.{Stands, Lifts, left, right, within, algorithm_told, name_told, several_told, tagged_told}
 
--- the same parts are the same list
+-- equal parts are equal lists
 same_list : (a b : RevocationList) → a.version ≡ b.version → a.signature ≡ b.signature → a.issuer ≡ b.issuer → a.this_update ≡ b.this_update → a.next_update ≡ b.next_update
     → a.entries ≡ b.entries → a.extensions ≡ b.extensions → a.algorithm ≡ b.algorithm → a.signature_value ≡ b.signature_value → a ≡ b
 same_list a b version signature issuer this_update next_update entries extensions algorithm signature_value = λ i. record {

@@ -1,4 +1,4 @@
--- Lists of which one tells the other, each made of what its values show.
+-- Lists of which one determines the other, each made of what its values show.
 use Rattle.std.proofs.Common.{◌≡◌, ◌∙◌, sym, ap, subst, List, [], ◌∷◌, ◌++◌, append-nil, map, length, arith, refl}
 use Rattle.std.specs.List.{AllZip}
 
@@ -21,7 +21,7 @@ zip_push R xs longer ys further x y is more all one =
 pub shown : {A X : Type 0} (f : X → A) (xs longer : List X) (x : X) → longer ≡ xs ++ x ∷ [] → map f longer ≡ map f xs ++ f x ∷ []
 shown f xs longer x is = ap (map f) is ∙ map_push f xs x
 
--- what tells the values that are left, behind what was made tells the whole
+-- what determines the values that are left, after what was made determines the whole
 abbrev pub TellsRest : {A B X Y : Type 0} → (A → B → Type 0) → (X → A) → (Y → B) → List X → List X → List Y → Type 0
 TellsRest {A} {B} R f g whole rest ys = (more : List B) → AllZip R (map f rest) more → AllZip R (map f whole) (map g ys ++ more)
 

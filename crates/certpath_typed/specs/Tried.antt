@@ -1,4 +1,4 @@
--- How many headers are tried at least where an item is read.
+-- How many headers are tried at least if an item is read.
 use Rattle.std.specs.Prelude.{◌≡◌, ◌+◌, ◌≤◌, ℕ, List}
 use Rattle.der_tree.specs.Shape.{IsObject}
 use Rattle.der_tree.specs.Tree.{Tree, octets, element_count}

@@ -1,4 +1,4 @@
--- Certificates of one kind have the same lines of links.
+-- Certificates of one kind have equal lines of links.
 use Rattle.std.specs.Prelude.{◌↔◌}
 use Rattle.std.proofs.Common.{Bool, ◌≡◌, ◌∙◌, ap, sym, subst, refl, ℕ, ◌<◌, List, map, length, get_or, Option, Some, None, Vec, Global, option_map, String}
 use Rattle.std.specs.List.{Contains}

@@ -1,4 +1,4 @@
--- Issuers whose path length stands in the way.
+-- Issuers whose path length prevents a path.
 use Rattle.std.specs.Prelude.{◌↔◌, ◌⊎◌}
 use Rattle.std.proofs.Common.{◌≡◌, ◌≢◌, ◌∙◌, sym, subst, refl, ℕ, ◌+◌, ◌<◌, ◌≤◌, Bool, List, [], ◌∷◌, ◌++◌, length, map, take, get_or, arith, inl, inr}
 use Rattle.std.specs.List.{Contains}

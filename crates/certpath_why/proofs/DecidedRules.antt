@@ -1,4 +1,4 @@
--- What the definitions of judging say of certificates, lists and links holds where it isn't
+-- What the definitions of judging say of certificates, lists and links holds if it isn't
 -- refuted.
 use Rattle.std.proofs.Common.{◌≡◌, ◌∙◌, sym, subst, refl, ℕ, ℤ, ◌<ℤ◌, ◌≤ℤ◌, Bool, false, List, get_or, arith, Option, Some, None, int_eq, inl, inr}
 use Rattle.std.proofs.lemmas.Bool.Decides.{Decides-int_eq}

@@ -1,5 +1,5 @@
 -- Whether a value of basicConstraints or keyUsage is well written has an answer: what it may say
--- stands in its octets.
+-- is in its octets.
 use Rattle.std.proofs.Common.{◌≡◌, ◌∙◌, ap, sym, subst, refl, ℕ, ◌+◌, ◌*◌, ◌/◌, ◌%◌, ◌^◌, Bool, true, false, List, [], ◌∷◌, ◌++◌, length, append_assoc, Option, Some, None, inl, inr}
 use Rattle.std.proofs.lemmas.Bool.{cases_eq}
 use Rattle.asn1_core.specs.Elements.{Element, element_octets, head_of_element}

@@ -1,4 +1,4 @@
--- What has an answer, yes or no. What has one holds where it isn't refuted.
+-- What has an answer, yes or no. What has one holds if it isn't refuted.
 use Rattle.std.specs.Prelude.{◌⊎◌}
 use Rattle.std.proofs.Common.{◌≡◌, sym, subst, refl, ℕ, zero, suc, ◌<◌, ◌≤◌, Bool, true, false, List, [], ◌∷◌, ◌++◌, length, arith, inl, inr, bytes_eq, true≢false}
 use Rattle.std.specs.List.{All, Contains}

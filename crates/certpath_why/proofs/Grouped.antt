@@ -76,7 +76,7 @@ unvouched_iff V others x ws ss named signed w =
           ),
     )
 
--- the same of the ranges of those of the name
+-- the ranges of those of the name whose keys don't vouch
 pub unvouched_cut : (V : List ℕ → List ℕ → Type 0) (read : List ReadItem) (x : CertificateItem) (issuers : Issuers) (ss : List ℕ) (cut : Cut) → AreIssuers read x.issuer.now issuers
     → ((w : ℕ) → Contains ss w ↔ IsSignedBy V (map item_of read) (certificate_item x) w) → IsCutOf (λ w. IsInRanges issuers.all.items w × (Contains ss w → ⊥)) cut
     → IsCutOf (λ w. IsAt (map item_of read) w (IsCertificateWith (λ d. (name_octets d.subject ≡ name_octets (certificate_of x).issuer) × (V (key_octets d.key) x.octets.now → ⊥)))) cut

@@ -226,7 +226,7 @@ module _ (V : List ℕ → List ℕ → Type 0) (issued members : List Place) (o
         ) v;
   }
 
-  -- who stands in the row of an item signed it
+  -- who is in the row of an item signed it
   pub row_iff : (h : Holders) → AreHolders V issued members octets classes (HasMember members) h → (i : ℕ) (o : Bor (List ℕ)) (name : List ℕ) → i < length octets → Shows Name issued i name
       → (w : ℕ) → IsInRow h (get_or classes.numbers.items i 0) name w ↔ IsSignerOf V members name (get_or octets i o).now w
   row_iff h a i o name lt shows w =

@@ -17,7 +17,7 @@ some_none e = cc
 one_held : {X : Type 0} {x y : X} → Some x ≡ Some y → x ≡ y
 one_held e = cc
 
--- what stands in a map under a name are its lists
+-- what is in a map under a name are its lists
 abbrev AreHeld : List ReadItem → DateTime → BTreeMap (Bor (List ℕ)) ListsInForce → Type 0
 AreHeld xs moment m = (q : Bor (List ℕ)) (lists : ListsInForce) → mapped.get R m q ≡ Some lists → AreListsInForce xs moment q.now lists
 

@@ -191,7 +191,7 @@ module _ (items : List ReadItem) (x : CertificateItem) (under : Issuers) (are : 
   abbrev Linked : ℕ → Type 0
   Linked w = Contains under.places.items w × AgreesAt (map item_of items) x w
 
-  -- where no key is named, all agree
+  -- if no key is named, all agree
   pub all_agree : (cut : Cut) → x.authority_key_id ≡ None → CutsTo under.all.items cut → IsCutOf Linked cut
   all_agree cut none h =
       let iff : (w : ℕ) → Contains under.places.items w ↔ Linked w = λ w. (
@@ -202,7 +202,7 @@ module _ (items : List ReadItem) (x : CertificateItem) (under : Issuers) (are : 
       ) in
       (under.all.items, ranges_as under.all.items iff are.all, h)
 
-  -- where nobody has the one that is named, those agree that have none
+  -- if nobody has the one that is named, those agree that have none
   pub bare_agree : (id : Bor (List ℕ)) (agreeing : List ℕ) (cut : Cut) → x.authority_key_id ≡ Some id → ArePositions (λ w. Contains under.places.items w × IsOwnId items id.now w) agreeing → agreeing ≡ [] → CutsTo under.bare_ranges.items cut → IsCutOf Linked cut
   bare_agree id agreeing cut names own empty h =
       let iff : (w : ℕ) → Contains under.bare.items w ↔ Linked w = λ w. (

@@ -54,7 +54,7 @@ is_read (certificate_read c) h = tt
 is_read (list_read l) h = absurd (no_list h.1)
 is_read (other_read o) h = absurd (no_other h.1)
 
--- where no certificate was read there is none
+-- if no certificate was read there is none
 pub none_read : (items : List ReadItem) (v : ℕ) → (IsAt items v IsCertificateRead → ⊥) → IsCertificateAt (map item_of items) v → ⊥
 none_read items v never h =
     let long = length-map items item_of in

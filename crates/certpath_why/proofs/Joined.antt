@@ -1,4 +1,4 @@
--- Texts appended one behind the other.
+-- Texts appended one after another.
 use Rattle.std.proofs.Common.{◌≡◌, ◌∙◌, ap, ℕ, List, ◌++◌, append_assoc}
 
 pub then_appended : (first a b old new : List ℕ) → new ≡ old ++ b → old ≡ first ++ a → new ≡ first ++ (a ++ b)

@@ -1,4 +1,4 @@
--- Path lengths that stand in the way.
+-- Path lengths that prevent a path.
 use Rattle.std.specs.Prelude.{◌↔◌, ◌⊎◌, if◌then◌else◌}
 use Rattle.std.proofs.Common.{◌≡◌, ◌≢◌, ◌∙◌, ap, sym, subst, refl, ℕ, zero, suc, ◌+◌, ◌<◌, Bool, true, false, cond, List, [], ◌∷◌, length, get_or, arith, inl, inr}
 use Rattle.std.specs.List.{Contains}
@@ -55,7 +55,7 @@ less_one_no (UpTo zero) some e = refl
 less_one_no (UpTo (suc n)) some e = absurd (cc)
 less_one_no Any some e = absurd (cc)
 
--- nothing is passed on of some reach: the certificate counts, and none may stand below
+-- nothing is passed on of some reach: the certificate counts, and none may be below
 passed_no : (b : Bool) (s : Reach) → (s ≡ No → ⊥) → cond b s (less_one s) ≡ No → (b ≡ false) × (s ≡ UpTo 0)
 passed_no true s some e = absurd (some e)
 passed_no false s some e = (refl, less_one_no s some e)
@@ -155,7 +155,7 @@ module _ (r : JudgingContext) (items anchors : List Item) where
     pub all_reached : (ps : List ℕ) (a v : ℕ) → IsUncountedPath r items anchors target ps a → Contains ps v → IsReached items target v
     all_reached ps a v p h = from_reached p.issuers a (from_valid (without_lengths G) target ps a p) v (subst (λ l. Contains l v) p.starts h)
 
-    -- ---- where a path length stands in the way
+    -- ---- where a path length prevents a path
 
     module _ (row : List Reach) (anchored : HasAnchored G row) (fixed : IsSuccessor G row row) (alone : (b : ℕ) → G.AnchorEdge target b → ⊥) (shut : (w : ℕ) → G.Fit w → G.Edge target w → at_row row w ≡ No) where
       abbrev Found : List ℕ → Type 0
@@ -236,7 +236,7 @@ module _ (r : JudgingContext) (items anchors : List Item) where
               (f.0, subst (λ l. Contains l f.0) (sym p.starts) f.1, f.2)
         ]
 
-    -- ---- exactly where
+    -- ---- exactly if
 
     -- a valid path is one but for path lengths
     uncounted : (ps : List ℕ) (a : ℕ) → IsValidPath G target ps a → IsUncountedPath r items anchors target ps a

@@ -121,7 +121,7 @@ differing_cut items x id issuers found cut names are agreeing h =
       λ d. let y = iff.1 d in ((are.keyed.exact w).1 y.0, λ c. y.1 ((agreeing.exact w).0 c)),
     )) h
 
--- where no key is named, none differs
+-- if no key is named, none differs
 pub none_differing : (items : List ReadItem) (x : CertificateItem) (cut : Cut) → x.authority_key_id ≡ None → CutsTo [] cut → IsCutOf (IsDiffering (map item_of items) (certificate_of x)) cut
 none_differing items x cut is h =
     cut_none (IsDiffering (map item_of items) (certificate_of x)) cut
@@ -234,7 +234,7 @@ some_none e = cc
 one_held : {X : Type 0} {x y : X} → Some x ≡ Some y → x ≡ y
 one_held e = cc
 
--- what stands in a map under a name are the certificates of the name
+-- what is in a map under a name are the certificates of the name
 abbrev AreHeld : List ReadItem → BTreeMap (Bor (List ℕ)) Issuers → Type 0
 AreHeld items m = (q : Bor (List ℕ)) (issuers : Issuers) → mapped.get R m q ≡ Some issuers → AreIssuers items q.now issuers
 

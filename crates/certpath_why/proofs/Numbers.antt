@@ -1,4 +1,4 @@
--- One bucket more that stands under its text, and what a directory finds.
+-- One bucket more that is under its text, and what a directory finds.
 use Rattle.std.proofs.Common.{◌≡◌, ◌∙◌, ap, sym, subst, ℕ, ◌+◌, ◌<◌, cond, List, [], length, arith, get_or, Some, None, Bor, inl, inr}
 use Rattle.std.specs.BTreeMap as mapped
 use Rattle.std.specs.BTreeMap.{BTreeMap}

@@ -142,7 +142,7 @@ lasts_rise rs h i j d le lt = elim (cases_lt i j) [
   | inr past ↦ let same : i ≡ j = omega arith in subst (λ k. (get_or rs i d).last ≤ (get_or rs k d).last) same (omega arith)
 ]
 
--- a position that is before the range that ends at it or behind it
+-- a position that is before the range that ends at it or after it
 pub in_at : (rs : List Range) (p at : ℕ) → at < length rs → ((d : Range) → ((get_or rs at d).first ≤ p) × (p ≤ (get_or rs at d).last)) → IsInRanges rs p
 in_at rs p at lt h =
     let d : Range = record { first = 0; last = 0 } in
@@ -266,7 +266,7 @@ nowhere p done walk ready none i = elim ((in_both done (ahead walk) p).0 i) [
   | inr j ↦ elim ((in_both (opened walk.begun) walk.rest.now p).0 j) [ inl k ↦ none k | inr m ↦ ready.past m ]
 ]
 
--- nothing is left out where the position isn't there
+-- nothing is left out if the position isn't there
 pub not_taken : (p : ℕ) (done : List Range) (walk : Walk) → CutsTo done walk.cut → AreSpaced 0 (done ++ ahead walk) → IsReady p done walk → (IsInRanges (opened walk.begun) p → ⊥) → IsTaken p (done ++ ahead walk) walk
 not_taken p done walk cut spaced ready none = record {
   done = done;
@@ -300,7 +300,7 @@ taken p done walk new x a spaced ready is low up rest f g cut =
           (subst (λ l. IsInRanges (done ++ (opened a ++ (opened c ++ left))) w ↔ (IsInRanges l w × (w ≢ p))) (sym old_is) (left_exact done x left p a c low up f g here ready.below w));
     }
 
--- ready where the range that was begun has the position
+-- ready if the range that was begun has the position
 pub ready_begun : (p : ℕ) (done : List Range) (walk : Walk) → CutsTo done walk.cut → AreSpaced 0 (done ++ ahead walk) → AreBelow p done → IsInRanges (opened walk.begun) p → IsReadied p (done ++ ahead walk) walk
 ready_begun p done walk cut spaced below here = record {
   done = done;
@@ -312,7 +312,7 @@ ready_begun p done walk cut spaced below here = record {
   };
 }
 
--- or where none of those that were not begun has it
+-- or if none of those that were not begun has it
 pub ready_past : (p : ℕ) (done : List Range) (walk : Walk) → CutsTo done walk.cut → AreSpaced 0 (done ++ ahead walk) → AreBelow p done → (AreSpaced 0 walk.rest.now → IsInRanges walk.rest.now p → ⊥) → IsReadied p (done ++ ahead walk) walk
 ready_past p done walk cut spaced below none = record {
   done = done;
@@ -324,7 +324,7 @@ ready_past p done walk cut spaced below none = record {
   };
 }
 
--- or where the range is begun that has it
+-- or if the range is begun that has it
 pub ready_at : (p : ℕ) (done : List Range) (walk new : Walk) (at : ℕ) (x : Range) → AreSpaced 0 (done ++ ahead walk) → at < length walk.rest.now → get_or walk.rest.now at x ≡ x → x.first ≤ p → p ≤ x.last
     → CutsTo ((done ++ opened walk.begun) ++ take at walk.rest.now) new.cut → new.begun ≡ Some x → new.rest.now ≡ drop (at + 1) walk.rest.now → IsReadied p (done ++ ahead walk) new
 ready_at p done walk new at x spaced lt is low up cut begun rest =

@@ -160,7 +160,7 @@ at_certificate items v w h = (h.0, λ d. let x = h.1 d in (x.0, x.1, tt))
 to_certificate : (items : List Item) (v w : ℕ) (d : Item) → IsIssuerByName items v w → IsCertificateAt items w
 to_certificate items v w d h = let there = (h.1 d).2 in (there.0, λ e. let y = there.1 e in (y.0, y.1, tt))
 
--- some item, where there is one
+-- some item, if there is one
 some_item : (items : List Item) (v : ℕ) → v < length items → Item
 some_item [] v lt = absurd (omega arith)
 some_item (x ∷ xs) v lt = x

@@ -104,7 +104,7 @@ tails_told L F lists one two three four new up all a b c d e front =
       text_is = is;
     }
 
--- no lines where there is nobody to be linked to
+-- no lines if there is nobody to be linked to
 pub no_ranges : (P : ℕ → Type 0) → ((w : ℕ) → P w → ⊥) → AreRanges P []
 no_ranges P none = record {
   exact = λ w. (λ i. let at = i.1 in let lt = at.1 in absurd (omega arith), λ p. absurd (none w p));

@@ -1,4 +1,4 @@
--- Texts that were told, one behind the other.
+-- Texts that were appended, one after another.
 use Rattle.std.proofs.Common.{◌+◌, add-one, nat_eq, if◌then◌else◌, eq-eqb, ne_eqb, ◌≡◌, ap, sym, subst, refl, ℕ, ◌<◌, ◌≤◌, List, [], ◌∷◌, ◌++◌, map, length, get_or, arith}
 use Rattle.std.proofs.lemmas.List.{length-map}
 use Rattle.cert_graph.specs.Entries.{IsAt}
@@ -27,7 +27,7 @@ use Rattle.certpath_why.specs.Reached.{HasSubject, ArePositions}
 use Rattle.certpath_why.proofs.Joined.{then_appended}
 use Rattle.certpath_why.proofs.Items.{at_read}
 
--- ---- texts that were told
+-- ---- texts that were appended
 
 pub told_target : (place target : ℕ) (lines : List ℕ) → place ≡ target → [] ≡ (if nat_eq place target then [] else lines)
 told_target place target lines e = ap (λ b. if b then [] else lines) (sym (eq-eqb place target e))

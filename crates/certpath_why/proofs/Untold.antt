@@ -1,4 +1,4 @@
--- What follows where no line is told: of certificates, links and paths.
+-- What follows if there is no line: of certificates, links and paths.
 use Rattle.std.specs.Prelude.{◌↔◌, ◌⊎◌}
 use Rattle.std.proofs.Common.{◌≡◌, ◌∙◌, ap, sym, subst, refl, ℕ, ◌<◌, Bool, true, false, nat_eq, eq-eqb, eqb-true, List, [], ◌∷◌, length, flat_map, get_or, arith, inl, inr}
 use Rattle.std.specs.List.{All}
@@ -37,7 +37,7 @@ use Rattle.certpath_why.proofs.Lengths.{exactly}
 
 -- ---- lists of reasons, and their lines
 
--- where no reason applies, the list of all is empty
+-- if no reason applies, the list of all is empty
 none_listed : {R : Type 0} (order : R → ℕ × ℕ) (Stands : R → Type 0) (rs : List R) → AreAll order Stands rs → ((reason : R) → Stands reason → ⊥) → rs ≡ []
 none_listed order Stands [] all none = refl
 none_listed order Stands (x ∷ rs) all none = absurd (none x ((all.exact x).0 (0, (let lt : 0 < length (x ∷ rs) = omega arith in lt), refl)))

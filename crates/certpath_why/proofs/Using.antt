@@ -123,7 +123,7 @@ lacking_iff V moment demand items others name is w =
           ((cert_iff others w z.0 z.1 z.2 z.3 z.4 S).0 z.5.0, λ u. z.5.1.1 ((cert_iff others w z.0 z.1 z.2 z.3 z.4 H).1 u).1),
     )
 
--- where lists aren't demanded, none is lacking
+-- if lists aren't demanded, none is lacking
 pub none_lacking_there : (V : Vouching) (moment : DateTime) (demand : Bool) (items others : List Item) (name : List ℕ) → (demand ≡ true → ⊥) → (w : ℕ) → LacksListAt (rules_by moment demand V) items others name w → ⊥
 none_lacking_there V moment demand items others name none w h =
     let r = rules_by moment demand V in

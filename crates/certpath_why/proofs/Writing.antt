@@ -15,7 +15,7 @@ use Rattle.certpath_why.proofs.Keeping.{kept_none}
 use Rattle.certpath_why.proofs.Tailing.{written_none}
 use Rattle.certpath_why.proofs.Using.{AreSignersUnder, AreUsedUnder}
 
--- nothing stands under any kind
+-- nothing is under any kind
 pub none_written : {V : Type 0} (vouch : Ghosts V) (question : Question V) (written : Written) → HasNone written → AreWritten vouch question written
 none_written vouch question written none = record {
   items = record {

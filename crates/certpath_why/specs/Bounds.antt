@@ -1,4 +1,4 @@
--- Where a path length stands in the way. This page is to be believed.
+-- Where a path length prevents a path. This page is to be believed.
 use Rattle.std.specs.Prelude.{◌≡◌, ◌≢◌, ℕ, List}
 use Rattle.cert_graph.specs.Entries.{IsAt}
 use Rattle.cert_graph.specs.Adequate.{rows_of, row_of, at_row}

@@ -47,7 +47,7 @@ pub record IsReady (p : ℕ) (done : List Range) (walk : Walk) : Type 0 where
   pub below : AreBelow p done
   pub past : IsInRanges walk.rest.now p → ⊥
 
--- the same ranges, ready for a position
+-- the ranges of another walk, ready for a position
 pub record IsReadied (p : ℕ) (old : List Range) (walk : Walk) : Type 0 where
   pub done : List Range
   pub cut : CutsTo done walk.cut

@@ -28,12 +28,12 @@ abbrev pub IsHostLine : ℕ → Option AskedHost → List Extension → List ℕ
 IsHostLine v None es line = ⊥
 IsHostLine v (Some host) es line = (words : List ℕ) × AreHostsWords es words × (line ≡ host_line v host.shown.now words)
 
--- no text where a fact holds, and a line where it does not
+-- no text if a fact holds, and a line if it does not
 abbrev pub IsLineUnless : Type 0 → (List ℕ → Type 0) → List ℕ → Type 0
 IsLineUnless P IsLine text = (P × (text ≡ [])) ⊎ ((P → ⊥) × IsLine text)
 
--- A line exactly where the certificate does not allow the purpose, and one exactly where it is the target, by its octets, and
--- does not serve the host.
+-- A line exactly if the certificate does not allow the purpose, and one exactly if it is the
+-- target, by its octets, and does not serve the host.
 pub record AreUnmetLines (demand : Demand) (target : List ℕ) (v : ℕ) (x : Item) (c : Certificate) (text : List ℕ) : Type 0 where
   pub purpose : List ℕ
   pub purpose_is : IsLineUnless (AllowsIt (demanded demand target) c.extensions) (IsPurposeLine v demand.purpose c.extensions) purpose
@@ -41,6 +41,6 @@ pub record AreUnmetLines (demand : Demand) (target : List ℕ) (v : ℕ) (x : It
   pub host_is : IsLineUnless (x.octets ≡ target → ServesIt (demanded demand target) c.extensions) (IsHostLine v demand.host c.extensions) host
   pub text_is : text ≡ purpose ++ host
 
--- nothing where nothing is demanded
+-- nothing if nothing is demanded
 abbrev pub AreDemandLines : Demand → List ℕ → ℕ → Item → Certificate → List ℕ → Type 0
 AreDemandLines demand target v x c text = IfNeither demand.purpose demand.host (text ≡ []) (AreUnmetLines demand target v x c text)

@@ -35,7 +35,8 @@ pub record AreMarked (P : ℕ → Type 0) (marks new_marks : List Bool) : Type 0
   pub count : length new_marks ≡ length marks
   pub exact : (u : ℕ) → IsMarked new_marks u ↔ (IsMarked marks u ⊎ P u)
 
--- Some places were marked, and those of them that were not marked before stand at the end of the queue.
+-- Some places were marked, and those of them that were not marked before are at the end of the
+-- queue.
 pub record Spreads (places : List ℕ) (marks : List Bool) (queue : List ℕ) (new_marks : List Bool) (new_queue : List ℕ) : Type 0 where
   pub count : length new_marks ≡ length marks
   pub kept : (u : ℕ) → IsMarked marks u → IsMarked new_marks u
@@ -51,7 +52,8 @@ pub record SpreadsFrom (items : List Item) (v : ℕ) (marks : List Bool) (queue 
   pub exact : (w : ℕ) → Contains places w ↔ IsIssuerByName items v w
   pub spreads : Spreads places marks queue new_marks new_queue
 
--- There is a second mark for each position. Where it is set, all certificates with the subject of the one there are marked.
+-- There is a second mark for each position. If it is set, all certificates with the subject of the
+-- one there are marked.
 pub record AreSpent (items : List Item) (spent marks : List Bool) : Type 0 where
   pub count : length spent ≡ length items
   pub whole : (u w : ℕ) (name : List ℕ) → IsMarked spent u → HasSubject items name u → HasSubject items name w → IsMarked marks w

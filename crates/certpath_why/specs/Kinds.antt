@@ -74,7 +74,7 @@ pub record IsKind (xs : List ReadItem) (others : List Item) (moment : DateTime) 
 abbrev pub IsItemKind : {V : Type 0} → Question V → ℕ → CertificateItem → List ℕ → Type 0
 IsItemKind question p x kind = IsKind question.found.now.items.now (items_in question) question.policy.now.moment question.signers.now.classes question.signers.now.issuer_firsts.items (named_by x) p x kind
 
--- likewise whatever key identifier it names
+-- the kind of a certificate among items, whatever key identifier it names
 abbrev pub IsGroupKind : {V : Type 0} → Question V → ℕ → CertificateItem → List ℕ → Type 0
 IsGroupKind question p x kind = IsKind question.found.now.items.now (items_in question) question.policy.now.moment question.signers.now.classes question.signers.now.issuer_firsts.items None p x kind
 

@@ -1,4 +1,4 @@
--- When a path exists, by what the report tells. This page is to be believed.
+-- When a path exists, by what the report says. This page is to be believed.
 use Rattle.std.specs.Prelude.{ℕ, ◌^◌, ◌<◌, List, All, Contains, length}
 use Rattle.cert_graph.specs.Graph.{Graph, IsValidPath}
 use Rattle.cert_graph.specs.declared.reach.Reach.{Reach}
@@ -16,7 +16,7 @@ without_lengths g = record g { limit = λ v. Any }
 abbrev pub IsUncountedPath : JudgingContext → List Item → List Item → ℕ → List ℕ → ℕ → Type 0
 IsUncountedPath r items anchors target ps anchor = IsValidPath (without_lengths (graph_of_items r items anchors)) target ps anchor
 
--- and at none of its certificates a path length stands in the way
+-- and at none of its certificates a path length prevents a path
 abbrev pub IsFreePath : JudgingContext → List Item → List Item → ℕ → (ℕ → Reach) → List ℕ → ℕ → Type 0
 IsFreePath r items anchors target reach ps anchor = IsUncountedPath r items anchors target ps anchor × All (λ v. IsBound r items target reach v → ⊥) ps
 

@@ -1,5 +1,5 @@
--- The words of each reason, and the lines that tell them. Each line ends in LF (10). This page is to be
--- believed.
+-- The words of each reason, and the lines that have them. Each line ends in LF (10). This page is
+-- to be believed.
 use Rattle.std.specs.Prelude.{ℕ, List, [], ◌∷◌, ◌++◌, codes, Option, Some, None}
 use Rattle.std.specs.Fmt.{decimal}
 use Rattle.std.specs.List.{flat_map}

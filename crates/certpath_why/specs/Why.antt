@@ -1,4 +1,4 @@
--- What stands in the way of a path: the lines of a certificate, of a list, and the whole. A text is related
+-- What prevents a path: the lines of a certificate, of a list, and the whole. A text is related
 -- to the items by the definitions of reasons, each list of which is exact and in its order. This page is to
 -- be believed.
 use Rattle.std.specs.Prelude.{◌≡◌, ◌↔◌, ◌⊎◌, ℕ, zero, suc, nat_eq, Bool, if◌then◌else◌, List, [], ◌∷◌, ◌++◌, length, map, Contains, Option, Some, None}
@@ -30,7 +30,7 @@ use Rattle.certpath_why.specs.Ranges.{AreRanges}
 use Rattle.certpath_why.specs.declared.ranges.Range.{Range}
 use Rattle.certpath_why.specs.Reached.{HasSubject, IsCertificateAt, IsFurther, ArePositions}
 
--- a text for each element of a list, one behind the other
+-- a text for each element of a list, one after another
 abbrev pub AreTexts : {X : Type 0} → (X → List ℕ → Type 0) → List X → List ℕ → Type 0
 AreTexts IsText [] text = text ≡ []
 AreTexts IsText (x ∷ xs) text = (first : List ℕ) × (rest : List ℕ) × IsText x first × AreTexts IsText xs rest × (text ≡ first ++ rest)
@@ -88,7 +88,7 @@ abbrev pub FailsToAnchor : JudgingContext → List Item → List Item → Item �
 FailsToAnchor r items anchors x c reason a = IsAt anchors a (IsCertificateWith (λ d. (name_octets d.subject ≡ name_octets c.issuer)
     × HasLinkReason r items x c (name_octets d.subject) (key_octets d.key) (Unit {0}) reason))
 
--- a line where no certificate and no anchor has its issuer's name
+-- a line if no certificate and no anchor has its issuer's name
 abbrev pub missing_lines : ℕ → List ℕ → List ℕ → List ℕ → List ℕ
 missing_lines v issuer [] [] = missing_line v issuer
 missing_lines v issuer (w ∷ ws) roots = []
@@ -106,7 +106,7 @@ pub record TellsLinks (r : JudgingContext) (items anchors : List Item) (v : ℕ)
   pub to_roots_is : TellsGroups (to_anchors v) (IsLinkedToAnchor r items anchors x) (FailsToAnchor r items anchors x c) to_roots
   pub text_is : text ≡ to_issuers ++ (to_roots ++ missing_lines v (name_octets c.issuer) issuers roots)
 
--- the octets of the item at a position; none where there is none
+-- the octets of the item at a position; none if there is none
 abbrev pub octets_at : List Item → ℕ → List ℕ
 octets_at items v = target_octets (map (λ x. x.octets) items) v
 
@@ -133,13 +133,13 @@ HasKeyHere items name key = (w : ℕ) × IsAt items w (IsCertificateWith (λ d. 
 abbrev pub AreKeysOf : List Item → List Item → List ℕ → List (List ℕ) → Type 0
 AreKeysOf items anchors name keys = (key : List ℕ) → Contains keys key ↔ (HasKeyHere items name key ⊎ HasKeyHere anchors name key)
 
--- what is told of a list: nothing where it is used under one of the keys of its issuer's name
+-- what is said of a list: nothing if it is used under one of the keys of its issuer's name
 abbrev pub TellsList : JudgingContext → List Item → List Item → ℕ → Item → RevocationList → List ℕ → Type 0
 TellsList r items anchors p x l text =
     (keys : List (List ℕ)) × (reasons : List Unused) × AreKeysOf items anchors (name_octets l.issuer) keys
     × AreAll list_order (HasReasonAmong r keys x l) reasons × (text ≡ list_lines p (name_octets l.issuer) l reasons)
 
--- what is told of an item that is a list; of others nothing
+-- what is said of an item that is a list; of others nothing
 abbrev pub TellsItem : JudgingContext → List Item → List Item → ℕ → Item → Class → List ℕ → Type 0
 TellsItem r items anchors p x (certificate c) text = text ≡ []
 TellsItem r items anchors p x (list l) text = TellsList r items anchors p x l text
@@ -153,9 +153,10 @@ abbrev pub positions : ℕ → List ℕ
 positions zero = []
 positions (suc k) = positions k ++ k ∷ []
 
--- The lines of the target, where it is a certificate, and then of each further one that is reached from it; then how
--- far each of those leads whose path length, or that of an issuer above it, stands in the way. The lines
--- of certificates are by the first rules, and the answer is by the second: these vouch for less where something is demanded.
+-- The lines of the target, if it is a certificate, and then of each further one that is reached
+-- from it; then how far each of those leads whose path length, or that of an issuer above it,
+-- prevents a path. The lines of certificates are by the first rules, and the answer is by the
+-- second: these vouch for less if something is demanded.
 pub record TellsReached (demand : Demand) (r search : JudgingContext) (items anchors : List Item) (target : ℕ) (answer : Answer) (text : List ℕ) : Type 0 where
   pub further : List ℕ
   pub further_are : ArePositions (IsFurther items target) further

@@ -1,4 +1,4 @@
-//! Issuers whose path length stands in the way (RFC 5280, 6.1.4, l and m).
+//! Issuers whose path length prevents a path (RFC 5280, 6.1.4, l and m).
 
 ghost use Rattle.std.specs.Prelude.{◌≡◌, ◌≢◌, ◌↔◌, ◌++◌, ◌<◌, ℕ, List, [], length, map, Contains, IfOk, IfSome, OnOk, IsTrue, string_bytes};
 ghost use Rattle.std.specs.List.{flat_map};
@@ -219,8 +219,8 @@ fn bound_marks<V: Vouch, S: Vouch>(
     Ok(marks)
 }
 
-/// The positions of the issuers whose path length, or that of an issuer above them, stands in the
-/// way of one of the certificates that are reached.
+/// The positions of the issuers whose path length, or that of an issuer above them, prevents a
+/// path of one of the certificates that are reached.
 pub(crate) fn bound_among<V: Vouch, S: Vouch>(
     alloc: Global,
     question: &Question<'_, '_, V>,

@@ -188,7 +188,8 @@ fn tails_among<'a, V: Vouch>(
     Ok(tails)
 }
 
-/// Likewise, given their positions. Those of names that several have were brought together before.
+/// The ends of the lines of a certificate and the certificates of its issuer's name, given their
+/// positions. Those of names that several have were brought together before.
 fn tails_to_items<'a, V: Vouch>(
     alloc: Global,
     kept: &mut Kept<'a>,
@@ -361,7 +362,8 @@ fn root_tails_among<'a, V: Vouch>(
     Ok(tails)
 }
 
-/// Likewise, given their positions.
+/// The ends of the lines of a certificate and the anchors of its issuer's name, given their
+/// positions.
 fn tails_to_anchors<'a, V: Vouch>(
     alloc: Global,
     kept: &mut Kept<'_>,
@@ -460,7 +462,7 @@ fn tell_anchors<'a, V: Vouch>(
     Ok(())
 }
 
-/// A line where neither a certificate nor an anchor has the issuer's name.
+/// A line if neither a certificate nor an anchor has the issuer's name.
 fn tell_missing(
     text: &mut String,
     alloc: Global,

@@ -49,7 +49,7 @@ fn octets_there<'a>(items: &[ReadItem<'a>], place: usize) -> &'a [u8]
     octets_of(&items[place])
 }
 
-/// The octets of the item at a position; none where there is none.
+/// The octets of the item at a position; none if there is none.
 pub(crate) fn octets_at<'a>(items: &[ReadItem<'a>], place: usize) -> &'a [u8]
     ensures { result.now ≡ octets_at (map item_of items.now) place }
 {
@@ -114,7 +114,7 @@ fn push_unserved(
     Ok(())
 }
 
-/// The line of the purpose, where one is demanded.
+/// The line of the purpose, if one is demanded.
 fn push_unmet_purpose(
     text: &mut String,
     alloc: Global,
@@ -139,7 +139,7 @@ fn is_target(octets: &[u8], target: &[u8]) -> bool
     octets == target
 }
 
-/// The line of the host, where one is demanded of the certificate.
+/// The line of the host, if one is demanded of the certificate.
 fn push_unmet_host(
     text: &mut String,
     alloc: Global,

@@ -87,7 +87,7 @@ fn directory_of_lists<'a>(
     Directory::new(alloc, &places)
 }
 
-/// The item at a position, where it is a certificate.
+/// The item at a position, if it is a certificate.
 pub(crate) fn certificate_at<'b, 'a>(
     items: &'b [ReadItem<'a>],
     place: usize,

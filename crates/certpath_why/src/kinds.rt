@@ -99,7 +99,8 @@ pub(crate) fn item_kind<V: Vouch>(
     Ok(kind)
 }
 
-/// Likewise whatever key identifier it names.
+/// The kind of the certificate at a position, by its links to certificates, whatever key identifier
+/// it names.
 pub(crate) fn group_kind<V: Vouch>(
     alloc: Global,
     question: &Question<'_, '_, V>,
@@ -121,8 +122,8 @@ pub(crate) fn group_kind<V: Vouch>(
     Ok(kind)
 }
 
-/// Likewise by its links to anchors, for which key identifiers don't count. The first anchor of its
-/// issuer's name is given.
+/// The kind of the certificate at a position, by its links to anchors, for which key identifiers
+/// don't count. The first anchor of its issuer's name is given.
 pub(crate) fn anchor_kind<V: Vouch>(
     alloc: Global,
     question: &Question<'_, '_, V>,
@@ -144,8 +145,8 @@ pub(crate) fn anchor_kind<V: Vouch>(
     Ok(kind)
 }
 
-/// Likewise by its links to certificates as a search has them, by the numbers that what vouches in
-/// it gives.
+/// The kind of the certificate at a position, by its links to certificates as a search has them. The
+/// numbers are those by what vouches in the search.
 pub(crate) fn held_kind<V: Vouch>(
     alloc: Global,
     question: &Question<'_, '_, V>,

@@ -35,7 +35,7 @@ pub fn certificates_of_a_path_are_reached()
         → IsUncountedPath (rules_from moment demand vouches) items anchors target ps anchor → Contains ps v → IsReached items target v }
 {}
 
-/// By an adequate answer that there is no path, a path length stands in the way at one of the
+/// By an adequate answer that there is no path, a path length prevents a path at one of the
 /// certificates of each list that would be a path but for path lengths: it has the line of its
 /// bound.
 pub fn path_length_stands_in_the_way()
@@ -44,22 +44,22 @@ pub fn path_length_stands_in_the_way()
         → (v : ℕ) × Contains ps v × IsBound r items target (reach_by (NoPath table)) v }
 {}
 
-/// By an adequate answer a path exists exactly where some certificates would be a path but for path
-/// lengths, and a path length stands in the way at none of them.
+/// By an adequate answer a path exists exactly if some certificates would be a path but for path
+/// lengths, and a path length prevents a path at none of them.
 pub fn path_exactly_where_nothing_stands_in_the_way()
     ensures { (moment : CivilTime) (demand : Bool) (vouches : List ℕ → List ℕ → Bool) (items anchors : List Item) (target : ℕ) (answer : Answer)
         → let r = rules_from moment demand vouches in IsAdequate (graph_of_items r items anchors) target answer
         → ((ps : List ℕ) × (anchor : ℕ) × IsFreePath r items anchors target (reach_by answer) ps anchor) ↔ ((ps : List ℕ) × (anchor : ℕ) × IsValidPath (graph_of_items r items anchors) target ps anchor) }
 {}
 
-/// An example of a bound: an authority that lets no other stand below it holds another one back,
+/// An example of a bound: an authority that allows no other below it holds another one back,
 /// and not the target, which doesn't count.
 pub fn example_of_a_bound()
     ensures bound { IsBound (vouching_for_all false) (map certificate_item limited_above) 0 (at_row (No ∷ No ∷ UpTo 0 ∷ [])) 2 }
     ensures target { IsBound (vouching_for_all false) (map certificate_item limited_above) 1 (at_row (No ∷ No ∷ UpTo 0 ∷ [])) 2 → ⊥ }
 {}
 
-/// A certificate has no line of what is demanded exactly where it meets it.
+/// A certificate has no line of what is demanded exactly if it meets it.
 pub fn no_line_exactly_where_demands_are_met()
     ensures { (demand : Demand) (target : List ℕ) (v : ℕ) (x : Item) (c : Certificate)
         → AreDemandLines demand target v x c [] ↔ Meets (demanded demand target) x.octets c.extensions }

@@ -1,4 +1,4 @@
-//! Laws of single lines: names by the grammar, and what follows where a report has no line. Each is
+//! Laws of single lines: names by the grammar, and what follows if a report has no line. Each is
 //! a function that does nothing: its contract is the law.
 
 ghost use Rattle.std.specs.Prelude.{◌≡◌, ◌↔◌, ◌⊎◌, ◌++◌, ℕ, Bool, nat_eq, List, [], ◌∷◌, false, None, codes};
@@ -51,18 +51,18 @@ pub fn examples_of_shown_names()
     ensures null_shown { shown_name (0x05 ∷ 0x00 ∷ []) ≡ codes "#0500" }
 {}
 
-/// A certificate has no line of why it isn't usable exactly where it is usable.
+/// A certificate has no line of why it isn't usable exactly if it is usable.
 pub fn no_line_exactly_where_usable()
     ensures { (moment : CivilTime) (demand : Bool) (vouches : List ℕ → List ℕ → Bool) (v : ℕ) (x : Item) (c : Certificate) (text : List ℕ)
         → let r = rules_from moment demand vouches in AreUnusableLines r v x c text → (text ≡ []) ↔ IsUsable (r.Processes x.octets) r.moment c }
 {}
 
-/// A certificate has no line of why it may not issue others exactly where it may, or is the target.
+/// A certificate has no line of why it may not issue others exactly if it may, or is the target.
 pub fn no_line_exactly_where_it_may_issue()
     ensures { (target v : ℕ) (c : Certificate) (text : List ℕ) → AreNoIssuerLines (nat_eq v target) v c text → (text ≡ []) ↔ ((v ≡ target) ⊎ MayIssue c.extensions) }
 {}
 
-/// A certificate is linked to one of its issuer's name exactly where no reason is against it, and
+/// A certificate is linked to one of its issuer's name exactly if no reason is against it, and
 /// so to an anchor of that name.
 pub fn linked_exactly_where_no_reason_is()
     ensures item { (moment : CivilTime) (demand : Bool) (vouches : List ℕ → List ℕ → Bool) (items : List Item) (x : Item) (c : Certificate) (w : ℕ)
@@ -73,8 +73,8 @@ pub fn linked_exactly_where_no_reason_is()
         → let r = rules_from moment demand vouches in IsLinkedToAnchor r items anchors x a ↔ ((reason : Unlinked) → FailsToAnchor r items anchors x c reason a → ⊥) }
 {}
 
-/// Certificates are a path but for path lengths exactly where no line speaks against them. By an
-/// adequate answer a path exists exactly where none of such certificates has the line of a bound.
+/// Certificates are a path but for path lengths exactly if no line speaks against them. By an
+/// adequate answer a path exists exactly if none of such certificates has the line of a bound.
 pub fn path_exactly_where_no_line_is()
     ensures lines { (moment : CivilTime) (demand : Bool) (vouches : List ℕ → List ℕ → Bool) (items anchors : List Item) (target : ℕ) (ps : List ℕ) (anchor : ℕ)
         → let r = rules_from moment demand vouches in IsPathByLines r items anchors target ps anchor ↔ IsUncountedPath r items anchors target ps anchor }

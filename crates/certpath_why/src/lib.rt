@@ -1,7 +1,7 @@
-//! What stands in the way of a certification path, as lines of text (RFC 5280, 6.1 and 6.3).
+//! What prevents a certification path, as lines of text (RFC 5280, 6.1 and 6.3).
 //!
 //! The lines say, for each certificate that is reached from the target by the names of issuers, why
-//! it is not usable, which purpose it isn't for and which host it doesn't serve, where these are
+//! it is not usable, which purpose it isn't for and which host it doesn't serve, if these are
 //! demanded, why it may not issue others, and how it is linked. Then they name each revocation list
 //! that nobody uses. Each line is a reason of `cert_reasons`: none is missing, and none is there
 //! that does not apply.

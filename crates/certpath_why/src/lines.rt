@@ -149,7 +149,7 @@ fn push_list_name(
     Ok(())
 }
 
-/// The lines of a list: none where it is used.
+/// The lines of a list: none if it is used.
 pub(crate) fn push_list(
     text: &mut String,
     alloc: Global,

@@ -36,7 +36,7 @@ fn push_listed_octet(text: &mut String, octet: u8) -> Result<(), AllocError>
     }
 }
 
-/// Appends octets likewise.
+/// Appends octets of a name, with commas escaped too.
 fn push_listed_octets(text: &mut String, octets: &[u8]) -> Result<(), AllocError>
     ensures { OnOk result (string_bytes text.new ≡ string_bytes text.old ++ flat_map listed_octet octets.now) }
 {

@@ -51,7 +51,7 @@ pub(crate) fn push_pair(text: &mut String, octet: u8) -> Result<(), AllocError>
     write!(text, "{octet:02X}")
 }
 
-/// Appends an octet, escaped where it doesn't stand for itself.
+/// Appends an octet, escaped if it doesn't stand for itself.
 pub(crate) fn push_octet(text: &mut String, octet: u8) -> Result<(), AllocError>
     ensures { OnOk result (string_bytes text.new ≡ string_bytes text.old ++ escaped_octet octet) }
 {
@@ -63,7 +63,7 @@ pub(crate) fn push_octet(text: &mut String, octet: u8) -> Result<(), AllocError>
     }
 }
 
-/// Appends octets likewise.
+/// Appends octets, each escaped if it doesn't stand for itself.
 fn push_escaped(text: &mut String, octets: &[u8]) -> Result<(), AllocError>
     ensures { OnOk result (string_bytes text.new ≡ string_bytes text.old ++ escaped octets.now) }
 {
@@ -93,7 +93,7 @@ fn push_text(text: &mut String, name: &[u8]) -> Result<(), AllocError>
     push_escaped(text, name)
 }
 
-/// The text of a name, where it has one.
+/// The text of a name, if it has one.
 fn text_of(
     alloc: Global,
     labels: &Labels,
@@ -108,7 +108,7 @@ fn text_of(
     }
 }
 
-/// The text of the name that takes up all the octets, where there is one.
+/// The text of the name that takes up all the octets, if there is one.
 fn whole_text(alloc: Global, labels: &Labels, octets: &[u8]) -> Result<Option<String>, OutOfMemory>
     ensures { IfOk result (λ text. option_map string_bytes text ≡ whole_text octets.now (name_at octets.now)) }
 {
@@ -125,7 +125,7 @@ fn whole_text(alloc: Global, labels: &Labels, octets: &[u8]) -> Result<Option<St
     }
 }
 
-/// Appends a name, by its octets: its text, or its octets in hexadecimal after `#` where it has
+/// Appends a name, by its octets: its text, or its octets in hexadecimal after `#` if it has
 /// none.
 pub(crate) fn push_name(
     text: &mut String,

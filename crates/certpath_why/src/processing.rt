@@ -1,4 +1,4 @@
-//! Who vouches, where the extensions that are looked at for a demand may be critical too.
+//! Who vouches, if the extensions that are looked at for a demand may be critical too.
 
 ghost use Rattle.std.specs.Prelude.{◌≡◌};
 

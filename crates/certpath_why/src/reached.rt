@@ -9,7 +9,7 @@ use crate::found::{Found, certificate_at, is_certificate};
 use crate::marks::{is_marked, marked_but, no_marks, put_mark};
 use std::alloc::{AllocError, Global};
 
-/// Marks a place, and puts it at the end of the queue, where it was not marked.
+/// Marks a place, and puts it at the end of the queue, if it was not marked.
 fn visit(marks: &mut Vec<bool>, queue: &mut Vec<usize>, place: usize) -> Result<(), AllocError>
     requires { place < length marks.now.items }
     ensures { OnOk result (Spreads (place ∷ []) marks.old.items queue.old.items marks.new.items queue.new.items) }

@@ -75,7 +75,8 @@ pub(crate) fn add_revoked<V: Vouch>(
     Ok(())
 }
 
-/// Likewise of the anchors of its issuer's name.
+/// Adds the end of a line for a list that revokes a certificate, of the anchors of its issuer's
+/// name.
 fn add_root_list<V: Vouch>(
     tails: &mut Vec<String>,
     alloc: Global,

@@ -31,7 +31,7 @@ use cert_purpose::{Permit, Restricted};
 use certpath_inputs::Demand;
 use std::alloc::Global;
 
-/// The lines of the target, where it is a certificate.
+/// The lines of the target, if it is a certificate.
 fn tell_target<'a, V: Vouch>(
     text: &mut String,
     alloc: Global,
@@ -110,7 +110,7 @@ fn tell_reached<V: Vouch, S: Vouch>(
     Ok(())
 }
 
-/// What stands in the way, by who vouches for certificates and lists, and by the relation of the
+/// What prevents a path, by who vouches for certificates and lists, and by the relation of the
 /// answer, which vouches for no more.
 fn push_why_by<'q, 'a, V: Vouch, S: Vouch>(
     text: &mut String,
@@ -152,11 +152,11 @@ fn push_why_by<'q, 'a, V: Vouch, S: Vouch>(
     Ok(())
 }
 
-/// Appends what stands in the way of a path: the lines of the target, where it is a certificate,
+/// Appends what prevents a path: the lines of the target, if it is a certificate,
 /// and of each further certificate that is reached from it by the names of issuers, in ascending
 /// order. If there is no path, each issuer has a line from which a path length holds back a
 /// certificate that is reached and linked to it. Then come the lines of each list that nobody uses,
-/// also where there is a path. Of items that are neither certificates nor lists there is no line.
+/// also if there is a path. Of items that are neither certificates nor lists there is no line.
 ///
 /// Positions count from 0, those of anchors by themselves. Names are printable ASCII: any other
 /// octet and the backslash are escaped, so no name holds a line feed.
@@ -201,11 +201,11 @@ pub fn push_why<V: Vouch>(
     )
 }
 
-/// Likewise where a purpose may be demanded of each certificate of the path, and a host of the
-/// target (RFC 5280, 4.2.1.12; RFC 9525, 6), by a permit of the items that meet the demand. Each
-/// certificate that is reached and doesn't allow the purpose has a line that says what it is for;
-/// the target, if it doesn't serve the host, has one that says which hosts it names. Of 20 purposes
-/// or names at most, with 253 octets of each.
+/// `push_why`, with a purpose that may be demanded of each certificate of the path, and a host of
+/// the target (RFC 5280, 4.2.1.12; RFC 9525, 6), by a permit of the items that meet the demand.
+/// Each certificate that is reached and doesn't allow the purpose has a line that says what it is
+/// for; the target, if it doesn't serve the host, has one that says which hosts it names. Of 20
+/// purposes or names at most, with 253 octets of each.
 ///
 /// Links are those of whatever is permitted: `no voucher` is never said of a certificate that only
 /// lacks the purpose. What the permit processes may be critical. The answer has to be one of a

@@ -20,7 +20,7 @@ HeaderAt i h rest = IsHead h × ((octets : List ℕ) × SpellsHeader octets h ×
 pub element_front : (n : ℕ) (i s r : List ℕ) (e : Element) (p : IsTagged n s e) → i ≡ s ++ r → i ≡ p.spells.header ++ (e.content ++ r)
 element_front n i s r e p q = q ∙ ap (λ z. z ++ r) p.spells.whole ∙ append_assoc p.spells.header e.content r
 
--- where a header begins a list, what an element at its front has
+-- if a header begins a list, what an element at its front has
 pub element_head : (n : ℕ) (h : Head) (i rest s r : List ℕ) (e : Element) → HeaderAt i h rest → IsTagged n s e → i ≡ s ++ r → (h ≡ head_of_element e) × (rest ≡ e.content ++ r)
 element_head n h i rest s r e p q f =
     let both = one_lenient_header_lem p.1.0 q.spells.header rest (e.content ++ r) h (head_of_element e) p.0 q.spells.in_range p.1.1 q.spells.spells (sym p.1.2 ∙ element_front n i s r e q f) in
@@ -36,7 +36,7 @@ element_size n h i rest s r e size p m q f =
 pub element_tag : (n : ℕ) (h : Head) (i rest s r : List ℕ) (e : Element) → HeaderAt i h rest → IsTagged n s e → i ≡ s ++ r → h.tag ≡ n
 element_tag n h i rest s r e p q f = ap (λ z. z.tag) (element_head n h i rest s r e p q f).0 ∙ q.tag_is
 
--- behind a header that wants more octets, no element begins the list with fewer of them
+-- after a header that wants more octets, no element begins the list with fewer of them
 pub element_missing : (n : ℕ) (h : Head) (i rest : List ℕ) (size : ℕ) → HeaderAt i h rest → size ≡ h.size →
     (more : List ℕ) → length more < size - length rest → HasTagged n (i ++ more) → ⊥
 element_missing n h i rest size p m more few has =

@@ -64,7 +64,7 @@ pub below_is : (limit : ℕ) (r : Result ℕ Error) (v : ℕ) → below limit r 
 below_is limit (Ok n) v p = let both = by_test (nat_lt n limit) n v limit refl p in (ap Ok both.0, subst (λ z. z < limit) both.0 both.1)
 below_is limit (Err x) v p = cc
 
--- no number is read where the object that begins the octets holds none
+-- no number is read if the object that begins the octets holds none
 pub no_number : (limit : ℕ) (i rest : List ℕ) (t : Tree) (e : Error) → ReadsDer 2 i t rest → below limit (number_of (content_in t)) ≡ Err e → (v : ℕ) (after : List ℕ) → ReadsNumber limit i v after → ⊥
 no_number limit i rest t e read refused v after p =
     let same : p.0 ≡ t = (reads_once 2 i after rest p.0 t p.1 read).0 in
@@ -72,6 +72,7 @@ no_number limit i rest t e read refused v after p =
     let there = below_small limit (number_of (content_in t)) v number p.3 in
     cc
 
--- one object begins the octets: whether and why it holds no number below the limit is told of any that does
+-- one object begins the octets: whether and why it holds no number below the limit is known for any
+-- octets that one begins
 pub number_once : (limit : ℕ) (i after rest : List ℕ) (t u : Tree) (r : Result ℕ Error) (e : Error) → ReadsDer 2 i u after → r ≡ below limit (number_of (content_in u)) → ReadsDer 2 i t rest → below limit (number_of (content_in t)) ≡ Err e → r ≡ Err e
 number_once limit i after rest t u r e read is other refused = let same : u ≡ t = (reads_once 2 i after rest u t read other).0 in is ∙ ap (λ z. below limit (number_of (content_in z))) same ∙ refused

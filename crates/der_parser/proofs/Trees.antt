@@ -38,7 +38,7 @@ reads_made n Holds i front rest h e c t found holds same = record {
   tree = same ∙ ap (λ z. node z front c) found.1;
 }
 
--- where an element begins the octets, what is read of them is read of that element
+-- if an element begins the octets, what is read of them is read of that element
 pub reads_held : (n : ℕ) (Holds : Element → Content → Type 0) (i front rest : List ℕ) (h : Head) (e : Element) →
     IsTagged n front e × (h ≡ head_of_element e) × (i ≡ front ++ rest) → Begins (ReadsTagged n Holds) i → (c : Content) × Holds e c
 reads_held n Holds i front rest h e found p =

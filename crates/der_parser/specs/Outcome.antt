@@ -12,7 +12,7 @@ use Rattle.der_tree.specs.Outcome.{Refuses}
 abbrev pub Begins : {V : Type 0} → (List ℕ → V → List ℕ → Type 0) → List ℕ → Type 0
 Begins {V} reads octets = (v : V) × (rest : List ℕ) × reads octets v rest
 
--- of a call that takes no memory; where octets are missing, no value begins these with fewer than
+-- of a call that takes no memory; if octets are missing, no value begins these with fewer than
 -- so many more
 abbrev pub Reads : {X V : Type 0} → (X → V) → (List ℕ → V → List ℕ → Type 0) → List ℕ → Result (Bor (List ℕ) × X) (Refusal Error) → Type 0
 Reads view reads octets (Ok p) = reads octets (view p.1) p.0.now

@@ -46,7 +46,7 @@ no_element e r same =
 pub cut_front : (i s r : List ℕ) (e : Element) → IsCut s e → i ≡ s ++ r → i ≡ strict_header (head_of_element e) ++ (e.content ++ r)
 cut_front i s r e p q = q ∙ ap (λ z. z ++ r) p.octets ∙ append_assoc (strict_header (head_of_element e)) e.content r
 
--- where a header begins a list, what a cut at its front has
+-- if a header begins a list, what a cut at its front has
 pub cut_under : (h : Head) (i rest s r : List ℕ) (e : Element) → IsHead h × (i ≡ strict_header h ++ rest) → IsCut s e → i ≡ s ++ r → (h ≡ head_of_element e) × (rest ≡ e.content ++ r)
 cut_under h i rest s r e p q f = one_header_lem h (head_of_element e) rest (e.content ++ r) p.0 q.in_range (sym p.1 ∙ cut_front i s r e q f)
 
@@ -57,7 +57,7 @@ cut_size h i rest s r e size p n q f =
     let long = length-append e.content r in
     (omega (arith, q.size), omega (arith, ap length m.1, long))
 
--- behind a header that wants more octets, no cut begins the list with fewer of them
+-- after a header that wants more octets, no cut begins the list with fewer of them
 pub cut_missing : (h : Head) (i rest : List ℕ) (size : ℕ) → IsHead h × (i ≡ strict_header h ++ rest) → size ≡ h.size →
     (more : List ℕ) → length more < size - length rest → HasCut (i ++ more) → ⊥
 cut_missing h i rest size p n more few has =

@@ -49,7 +49,7 @@ front_refused read r e is p = subst (λ a. ReadsFront a r) (sym is) p
 pub front_whole : {A X : Type 0} (read : Answer A) (p : A × List ℕ) (r : Result X (Refusal Error)) → read ≡ Ok p → IfErr r IsNotCut → ReadsFront read r
 front_whole read p r is whole = subst (λ a. ReadsFront a r) (sym is) whole
 
--- where a value is there, only want of memory refuses
+-- if a value is there, the only refusal is for lack of memory
 pub only_memory : (e : Refusal Error) (P : Type 0) → Refuses e (P → ⊥) → P → WantsMemory e
 only_memory (refusals.Incomplete n) P none p = absurd (none p)
 only_memory (refusals.Error e) P none p = absurd (none.0 p)

@@ -1,4 +1,4 @@
--- What the reader's answers say in the words of octets alone.
+-- What the reader's results say of octets alone.
 use Rattle.std.proofs.Common.{◌≡◌, ◌∙◌, sym, ap, ℕ, List, ◌++◌, Bor, Result, Ok, Err, IfOk, IfErr, MatchResult}
 use Rattle.asn1_core.specs.declared.error.Error.{Error}
 use Rattle.asn1_core.specs.declared.outcome.Err.{Err as Refusal}

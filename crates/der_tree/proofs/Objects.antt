@@ -118,7 +118,7 @@ not_raw n e l class tag left =
     let y : is_listed e.tag ≡ true = ap is_listed tag ∙ l in
     cc
 
--- what stands under a constructed header is no leaf, unless it is raw
+-- what is under a constructed header is no leaf, unless it is raw
 pub no_leaf : (n : ℕ) (e : Element) (v : Leaf) → is_listed n ≡ true → IsConstructed e n → Holds e v → ⊥
 no_leaf n e end_of_content l p q = q
 no_leaf n e (boolean b) l p q = let x = q.0.constructed in let y = p.constructed in cc

@@ -20,7 +20,7 @@ use Rattle.der_tree.proofs.Views.{at_object}
 pub object_cut : (k : ℕ) (s : List ℕ) → BeginsWithObject k s → HasCut s
 object_cut k s p = let m = object_parts k p.0 p.2 in (octets p.0, p.1, m.element, m.cut, p.3)
 
--- where an element is cut off the front, what an object there holds
+-- if an element is cut off the front, what an object there holds
 pub object_content : (k : ℕ) (i s r : List ℕ) (e : Element) → IsCut s e → i ≡ s ++ r → BeginsWithObject k i → (c : Content) × IsContent (k - 1) e c
 object_content k i s r e cut split p =
     let m = object_parts k p.0 p.2 in
@@ -65,7 +65,7 @@ mutual
   all_bound none k p = omega arith
   all_bound (more t ts) k p = omega (arith, count_bound t k p.0, all_bound ts k p.1, length-append (octets t) (all_octets ts))
 
--- no object begins where there are no octets
+-- no object begins if there are no octets
 pub nothing_begins : (k : ℕ) (i : List ℕ) → length i ≡ 0 → BeginsWithObject k i → ⊥
 nothing_begins k i empty p = omega (arith, empty, ap length p.3, length-append (octets p.0) p.1, object_long k p.0 p.2)
 

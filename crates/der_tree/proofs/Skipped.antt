@@ -31,7 +31,7 @@ no_parts e (leaf v) p n = omega arith
 no_parts e (sequence ts) p n = absurd p
 no_parts e (set ts) p n = absurd p
 
--- where an object begins the octets, they are one where nothing is behind it
+-- if an object begins the octets, they are one if nothing comes after it
 pub alone : (k : ℕ) (s rest : List ℕ) (t : Tree) (b : Bool) → IsObject k t → s ≡ octets t ++ rest → b ≡ (length rest == 0) → IsTrue b ↔ IsDerObject k s
 alone k s rest t b is split empty = (
   λ yes.
@@ -43,7 +43,7 @@ alone k s rest t b is split empty = (
       empty ∙ eq-eqb (length rest) 0 (ap length once.1),
 )
 
--- and where none does, they aren't
+-- and if none does, they aren't
 pub none_begins : (k : ℕ) (s : List ℕ) → (BeginsWithObject k s → ⊥) → IsDerObject k s → ⊥
 none_begins k s none object = let u = object_to k s object in none (u.0, [], u.1, sym u.2 ∙ sym (append-nil (octets u.0)))
 

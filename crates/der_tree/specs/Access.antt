@@ -35,7 +35,7 @@ abbrev pub bit_string_of : Content → Option (ℕ × List ℕ)
 bit_string_of (leaf (bit_string unused s)) = Some (unused, s)
 bit_string_of _ = None
 
--- the octets that stand under a kind's tag
+-- the octets under a kind's tag
 abbrev pub plain_of : Kind → Content → Option (List ℕ)
 plain_of k (leaf (plain j s)) = if tag_of j == tag_of k then Some s else None
 plain_of k _ = None
@@ -75,17 +75,17 @@ unsigned_of _ = Err BerTypeError
 abbrev pub integer_at : List ℕ → Result ℕ Error
 integer_at s = if is_shortest s then if is_negative s then Err IntegerNegative else Ok (number_from_digits 256 s) else Err BerValueError
 
--- that number is answered, or the same error
+-- that number is returned, or that error
 abbrev pub TellsUnsigned : Result UnsignedBytes Error → Result ℕ Error → Type 0
 TellsUnsigned (Ok v) told = told ≡ Ok (numbers.number_of v)
 TellsUnsigned (Err e) told = told ≡ Err e
 
--- the number, where it is below the limit
+-- the number, if it is below the limit
 abbrev pub below : ℕ → Result ℕ Error → Result ℕ Error
 below limit (Ok n) = if nat_lt n limit then Ok n else Err IntegerTooLarge
 below limit (Err e) = Err e
 
--- what is there is answered, or else `BerTypeError`
+-- what is there is returned, or else `BerTypeError`
 abbrev pub Offers : {X Y : Type 0} → (X → Y) → Result X Error → Option Y → Type 0
 Offers view (Ok x) found = found ≡ Some (view x)
 Offers view (Err e) found = (found ≡ None) × (e ≡ BerTypeError)
@@ -112,7 +112,7 @@ plain_at k t = plain_of k (content_in t)
 abbrev pub universal : Bool → ℕ → List ℕ → Element
 universal b n s = record { class = 0; constructed = b; tag = n; content = s }
 
--- the element itself, whatever it holds: what its header says, and the octets behind it
+-- the element itself, whatever it holds: what its header says, and the octets after it
 abbrev pub element_at : Tree → Element
 element_at (node h s c) = record { class = h.class; constructed = h.constructed; tag = h.tag; content = drop (length s - h.size) s }
 

@@ -7,7 +7,8 @@ use Rattle.asn1_core.specs.declared.serialize.SerializeError.TheVariants.{IOErro
 use Rattle.asn1_device.specs.Counts.{AppendsFront}
 use Rattle.der_tree.specs.Tree.{Leaf, end_of_content, boolean, bit_string, null, oid, enumerated, plain, raw, Tree, node, Content, leaf, sequence, set, Trees, none, more}
 
--- digits of base 256 as two's complement: behind 00 where the first bit is 1, and one octet at least (X.690, 8.3)
+-- digits of base 256 as two's complement: after 00 if the first bit is 1, and one octet at least
+-- (X.690, 8.3)
 abbrev pub positive : List ℕ → List ℕ
 positive [] = 0 ∷ []
 positive (d ∷ ds) = if nat_lt d 128 then d ∷ ds else 0 ∷ d ∷ ds

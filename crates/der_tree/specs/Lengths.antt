@@ -1,4 +1,4 @@
--- The lengths that the headers of an object tell, and those with which its tree was read.
+-- The lengths that the headers of an object give, and those with which its tree was read.
 use Rattle.std.specs.Prelude.{◌≡◌, ℕ, List, [], ◌∷◌, ◌++◌, map}
 use Rattle.asn1_core.specs.Strict.{Head}
 use Rattle.asn1_core.specs.declared.length.Length.{Length}
@@ -22,7 +22,8 @@ content_step _ = []
 abbrev pub object_step : BerObject-F (List Length) (List Length) → List Length
 object_step x = x.header.length ∷ x.content
 
--- that of an object's own header, then those of its parts in their order; a raw element tells its own once more
+-- that of an object's own header, then those of its parts in their order; a raw element gives its
+-- own once more
 abbrev pub lengths_told : BerObject → List Length
 lengths_told = fold-BerObject (List Length) (List Length) content_step object_step
 
@@ -32,7 +33,7 @@ lengths_within = fold-BerObjectContent (List Length) (List Length) content_step 
 abbrev pub lengths_of_all : List BerObject → List Length
 lengths_of_all os = joined (map lengths_told os)
 
--- what an element without parts tells under a header of this length
+-- what an element without parts gives under a header of this length
 abbrev pub leaf_lengths : Length → Leaf → List Length
 leaf_lengths length (raw e) = length ∷ []
 leaf_lengths length _ = []
@@ -55,15 +56,15 @@ abbrev mutual
 abbrev pub definite_length : Head → List ℕ → Length
 definite_length h s = Definite h.size
 
--- each header in the object, raw elements' too, tells the definite length of its content
+-- each header in the object, raw elements' too, gives the definite length of its content
 abbrev pub TellsDefinite : BerObject → Type 0
 TellsDefinite o = lengths_told o ≡ lengths_read definite_length (view o)
 
--- a content tells such lengths, its element's header telling this one
+-- a content's headers give such lengths, its element's header giving this one
 abbrev pub HoldsDefinite : Length → BerObjectContent → Content → Type 0
 HoldsDefinite length c d = lengths_within c ≡ lengths_held definite_length length d
 
--- a content without parts tells no length, or where it is raw that of its element's header
+-- a content without parts gives no length, or if it is raw that of its element's header
 abbrev pub HoldsOne : Length → BerObjectContent → Content → Type 0
 HoldsOne length c (leaf v) = lengths_within c ≡ leaf_lengths length v
 HoldsOne length c (sequence ts) = Unit {0}

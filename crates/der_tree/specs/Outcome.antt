@@ -16,7 +16,7 @@ Refuses (refusals.Incomplete n) None = None
 Refuses (refusals.Error e) None = None × (e ≢ OutOfMemory)
 Refuses (refusals.Failure e) None = e ≡ OutOfMemory
 
--- not that octets are missing behind the input
+-- not that octets are missing after the input
 abbrev pub IsNotCut : Refusal Error → Type 0
 IsNotCut (refusals.Incomplete n) = ⊥
 IsNotCut (refusals.Error e) = Unit {0}
@@ -26,8 +26,8 @@ IsNotCut (refusals.Failure e) = Unit {0}
 abbrev pub cut_at : List ℕ → Answer Element
 cut_at octets = then_read (strict_at octets) (λ h after. if nat_lt 4_294_967_295 h.size then refuse errors.InvalidLength else content_at h after)
 
--- what is read of the element at the front: where that isn't there, its refusal; where it is whole, no octets are told as
--- missing
+-- what is read of the element at the front: if that isn't there, its refusal; if it is whole, no
+-- octets are reported as missing
 abbrev pub ReadsFront : {A X : Type 0} → Answer A → Result X (Refusal Error) → Type 0
 ReadsFront (Ok p) result = IfErr result IsNotCut
 ReadsFront (Err x) result = IsErrAnd result (λ e. e ≡ x)

@@ -1,4 +1,5 @@
--- What may stand in the content of a DER element, one line for each universal tag (X.690, 8, 10 and 11).
+-- What may be in the content of a DER element, one line for each universal tag (X.690, 8, 10 and
+-- 11).
 use Rattle.std.specs.Prelude.{◌≡◌, ℕ, ◌^◌, ◌%◌, ◌<◌, ◌==◌, ◌&&◌, ◌||◌, not, nat_lt, nat_le, Bool, true, false, IsTrue, List, [], ◌∷◌, IsUtf8}
 use Rattle.std.specs.Int.Digits.{number_from_digits, AllBelowBase}
 use Rattle.std.specs.List.{list_all}
@@ -31,7 +32,8 @@ pub record IsEnumerated (s : List ℕ) : Type 0 where
   pub sign : is_negative s ≡ false
   pub size : number_from_digits 256 s < 2 ^ 64
 
--- the last octet's so many lowest bits are 0, and there are none where there is no octet (X.690, 8.6.2.3 and 11.2.1)
+-- the last octet's so many lowest bits are 0, and there are none if there is no octet (X.690,
+-- 8.6.2.3 and 11.2.1)
 abbrev pub are_unused_zero : ℕ → List ℕ → Bool
 are_unused_zero unused [] = unused == 0
 are_unused_zero unused (a ∷ []) = a % 2 ^ unused == 0
@@ -55,7 +57,7 @@ is_printable c =
 abbrev pub is_visible : ℕ → Bool
 is_visible c = nat_le 32 c && nat_le c 126
 
--- the universal types that are read as the octets that stand there
+-- the universal types that are read as the octets that are there
 pub data Kind : Type 0 where
   integer : Kind
   octet_string : Kind
@@ -135,7 +137,7 @@ is_listed n = nat_le n 7 || n == 10 || n == 12 || n == 13 || (nat_le 16 n && nat
 abbrev pub IsRaw : Element → Type 0
 IsRaw e = e.class ≡ 0 → is_listed e.tag ≡ false
 
--- The table: what may stand under a header, the parts of a sequence or set being `Parts`.
+-- The table: what may be under a header, the parts of a sequence or set being `Parts`.
 pub data Stands (Parts : List ℕ → Type 0) (e : Element) : Type 0 where
   boolean : IsPrimitive e 1 → IsTrue (is_boolean e.content) → Stands Parts e
   bit_string : IsPrimitive e 3 → IsTrue (is_bit_string e.content) → Stands Parts e

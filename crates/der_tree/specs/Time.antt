@@ -38,7 +38,7 @@ ends_in_zero [] = false
 ends_in_zero (d ∷ []) = d == 48
 ends_in_zero (d ∷ e ∷ ds) = ends_in_zero (e ∷ ds)
 
--- digits whose last isn't 0, behind a point, or nothing
+-- digits whose last isn't 0, after a point, or nothing
 abbrev pub fraction_octets : List ℕ → List ℕ
 fraction_octets [] = []
 fraction_octets (d ∷ ds) = 46 ∷ d ∷ ds

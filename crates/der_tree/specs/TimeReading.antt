@@ -1,4 +1,5 @@
--- Times read step by step. The meaning stands in `Time`; `proofs/Times` shows that these undo it.
+-- Times read step by step. The meaning is defined in `Time`; `proofs/Times` shows that these undo
+-- it.
 use Rattle.std.specs.Prelude.{◌≡◌, ℕ, ◌+◌, ◌-◌, ◌*◌, ◌<◌, ◌==◌, ◌&&◌, not, nat_le, Bool, true, false, if◌then◌else◌, Option, Some, None, option_and_then, List, [], ◌∷◌, ◌++◌, IsTrue}
 use Rattle.std.specs.List.{list_all}
 use Rattle.std.specs.Char.{is_ascii_digit}
@@ -45,7 +46,7 @@ is_fraction [] = true
 is_fraction (c ∷ []) = false
 is_fraction (c ∷ d ∷ ds) = c == 46 && list_all is_ascii_digit (d ∷ ds) && not (ends_in_zero (d ∷ ds))
 
--- Z, behind a fraction or nothing
+-- Z, after a fraction or nothing
 abbrev pub EndsTime : List ℕ → Type 0
 EndsTime s = (front : List ℕ) × IsTrue (is_fraction front) × (s ≡ front ++ 90 ∷ [])
 

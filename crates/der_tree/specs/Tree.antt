@@ -4,7 +4,7 @@ use Rattle.asn1_core.specs.Strict.{Head}
 use Rattle.asn1_core.specs.Elements.{Element}
 use Rattle.der_tree.specs.Table.{Kind}
 
--- what an element without parts holds: a value, octets as they stand, or the element itself, left raw
+-- what an element without parts holds: a value, octets as they are, or the element itself, left raw
 pub data Leaf : Type 0 where
   end_of_content : Leaf
   boolean : Bool → Leaf

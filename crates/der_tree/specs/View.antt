@@ -14,7 +14,7 @@ use Rattle.der_tree.specs.Tree.{end_of_content, boolean, bit_string, null, oid, 
 abbrev pub element_under : Header → List ℕ → Element
 element_under h s = record { class = class_number h.class; constructed = h.constructed; tag = h.tag.0; content = s }
 
--- the same element with the universal class
+-- the element, with the universal class instead of its own
 abbrev pub as_universal : Element → Element
 as_universal e = record { class = 0; constructed = e.constructed; tag = e.tag; content = e.content }
 

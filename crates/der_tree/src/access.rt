@@ -11,7 +11,7 @@ use asn1_core::Error;
 use asn1_oid::Oid;
 use asn1_unsigned::UnsignedBytes;
 
-/// Each call answers `BerTypeError` for another case than its own.
+/// Each call returns `BerTypeError` for another case than its own.
 impl<'a> BerObjectContent<'a> {
     /// The parts of a SEQUENCE.
     pub fn as_sequence(&self) -> Result<&Vec<BerObject<'a>>, Error>
@@ -150,7 +150,7 @@ impl<'a> BerObjectContent<'a> {
     }
 }
 
-/// Each call answers what the content's call of its name answers.
+/// Each call returns what the content's call of its name returns.
 impl<'a> BerObject<'a> {
     /// The octets that the object was read from: header and content.
     pub fn as_raw(&self) -> &'a [u8]

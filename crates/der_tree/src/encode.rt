@@ -18,7 +18,8 @@ use std::alloc::{AllocError, Global};
 /// Writes an object: a strict header and the content as it is held, a true boolean as ff (X.690, 8.1 and 10.1). Answers
 /// how many octets were written.
 ///
-/// Refusals: `OutOfMemory` before anything is written, `IOError` where the writer failed, behind a front of the octets.
+/// Refusals: `OutOfMemory` before anything is written, `IOError` if the writer failed, after a
+/// front of the octets.
 pub fn ber_encode_object<W: Sink>(
     alloc: Global,
     writer: &mut W,

@@ -36,7 +36,8 @@ pub fn written_again()
     ensures { (t : Tree) (k : ℕ) → IsObject k t → encoded t ≡ octets t }
 {}
 
-/// A tree shows a sequence exactly where its octets are a universal constructed element of tag 16 (X.690, 8.9).
+/// A tree shows a sequence exactly if its octets are a universal constructed element of tag 16
+/// (X.690, 8.9).
 pub fn shape_of_sequence()
     ensures found { (k : ℕ) (t : Tree) (ts : Trees) → IsObject k t → sequence_at t ≡ Some ts
         → IsCut (octets t) (universal true 16 (all_octets ts)) × AreObjects (k - 1) ts }
@@ -45,7 +46,8 @@ pub fn shape_of_sequence()
         → (ts : Trees) × (sequence_at t ≡ Some ts) × (all_octets ts ≡ s) × AreObjects (k - 1) ts }
 {}
 
-/// A tree shows a set exactly where its octets are a universal constructed element of tag 17 (X.690, 8.11).
+/// A tree shows a set exactly if its octets are a universal constructed element of tag 17 (X.690,
+/// 8.11).
 pub fn shape_of_set()
     ensures found { (k : ℕ) (t : Tree) (ts : Trees) → IsObject k t → set_at t ≡ Some ts
         → IsCut (octets t) (universal true 17 (all_octets ts)) × AreObjects (k - 1) ts }
@@ -54,7 +56,8 @@ pub fn shape_of_set()
         → (ts : Trees) × (set_at t ≡ Some ts) × (all_octets ts ≡ s) × AreObjects (k - 1) ts }
 {}
 
-/// A tree shows an object identifier exactly where its octets are a universal primitive element of tag 6 (X.690, 8.19).
+/// A tree shows an object identifier exactly if its octets are a universal primitive element of tag
+/// 6 (X.690, 8.19).
 pub fn shape_of_oid()
     ensures found { (k : ℕ) (t : Tree) (s : List ℕ) → IsObject k t → oid_at t ≡ Some s
         → IsCut (octets t) (universal false 6 s) × IsOidContent s }
@@ -62,7 +65,8 @@ pub fn shape_of_oid()
         → octets t ≡ element_octets (universal false 6 s) → (oid_at t ≡ Some s) × IsOidContent s }
 {}
 
-/// A tree shows octets of a kind exactly where its octets are a universal primitive element of the kind's tag.
+/// A tree shows octets of a kind exactly if its octets are a universal primitive element of the
+/// kind's tag.
 pub fn shape_of_plain()
     ensures found { (k : ℕ) (t : Tree) (j : Kind) (s : List ℕ) → IsObject k t → plain_at j t ≡ Some s
         → IsCut (octets t) (universal false (tag_of j) s) × Allows j s }

@@ -43,8 +43,8 @@ pub fn number_of(content: &[u8]) -> Option<u64>
     Some(number)
 }
 
-/// The number of an INTEGER's content octets (X.690, 8.3): `BerValueError` where they aren't the fewest, `IntegerNegative`
-/// below 0, `IntegerTooLarge` from 2^32 on.
+/// The number of an INTEGER's content octets (X.690, 8.3): `BerValueError` if they aren't the
+/// fewest, `IntegerNegative` below 0, `IntegerTooLarge` from 2^32 on.
 pub fn u32_of(content: &[u8]) -> Result<u32, Error>
     ensures { result ≡ below (2 ^ 32) (integer_at content.now) }
 {
@@ -60,7 +60,7 @@ pub fn u32_of(content: &[u8]) -> Result<u32, Error>
     }
 }
 
-/// The number of an enumerated value (X.690, 8.4), where it is not negative and below 2^64.
+/// The number of an enumerated value (X.690, 8.4), if it is not negative and below 2^64.
 pub(crate) fn enumerated_of(content: &[u8]) -> Option<u64>
     ensures { MatchOption result (IsEnumerated content.now → ⊥)
         (λ n. (n ≡ number_from_digits 256 content.now) × IsEnumerated content.now) }

@@ -39,8 +39,8 @@ pub fn parse_der<'a>(alloc: Global, i: &'a [u8]) -> BerResult<'a>
 /// tree's drop and `Debug`: 4,000 levels fit a stack of 8 MB, many more don't.
 ///
 /// Refusals, in their order: `BerMaxDepth` at no level; those of `Header::strict`; `InvalidLength` of more than
-/// `MAX_OBJECT_SIZE` content octets; `Incomplete` with the number of those that are missing; and where the element is whole
-/// `Failure` of `OutOfMemory`, or an error: it is no object of so many levels.
+/// `MAX_OBJECT_SIZE` content octets; `Incomplete` with the number of those that are missing; and if
+/// the element is whole `Failure` of `OutOfMemory`, or an error: it is no object of so many levels.
 pub fn parse_der_recursive<'a>(alloc: Global, i: &'a [u8], levels: usize) -> BerResult<'a>
     ensures found { IfOk result (λ p. IsObject levels (view p.1) × (i.now ≡ octets (view p.1) ++ p.0.now)) }
     ensures none { IfErr result (λ e. Refuses e (BeginsWithObject levels i.now → ⊥)) }
@@ -59,7 +59,8 @@ pub fn parse_der_recursive<'a>(alloc: Global, i: &'a [u8], levels: usize) -> Ber
 }
 
 /// `parse_der_recursive`, which raises the count by one for each header that it tries: for each element of the tree that
-/// it answers, and never by more than one for each octet of `i`. The count never falls, also where the octets are refused.
+/// it returns, and never by more than one for each octet of `i`. The count never falls, also if the
+/// octets are refused.
 #[cycle(reading)]
 pub fn parse_der_recursive_counted<'a>(
     alloc: Global,
@@ -123,8 +124,9 @@ pub(crate) fn content_of<'a>(
 /// For how many objects room is taken at most with the first one of a content.
 const FIRST_ROOM: usize = 4;
 
-/// Takes room for the first object of a content that has so many octets behind it: for as many objects as fit there, each
-/// being of two octets at least, and for no more than `FIRST_ROOM`. Later ones take theirs as they are pushed.
+/// Takes room for the first object of a content after which so many octets are left: for as many
+/// objects as fit there, each being of two octets at least, and for no more than `FIRST_ROOM`.
+/// Later ones take theirs as they are pushed.
 #[inline(always)]
 fn take_room(objects: &mut Vec<BerObject<'_>>, behind: usize) -> Result<(), AllocError>
     ensures items { objects.new.items ≡ objects.old.items }

@@ -1,4 +1,4 @@
-//! Objects told by their octets alone: nothing is built, so no memory is taken.
+//! Objects skipped by their octets alone: no tree is built, so nothing is allocated.
 
 ghost use Rattle.std.specs.Prelude.{◌≡◌, ◌↔◌, ◌+◌, ◌<◌, ◌≤◌, ◌^◌, ◌++◌, length, MatchOption, IsTrue};
 ghost use Rattle.asn1_core.specs.Counts.{attempts};
@@ -37,10 +37,12 @@ pub fn is_der_object_counted(i: &[u8], levels: usize, count: &mut HeaderCount) -
     }
 }
 
-/// The octets behind the DER object of at most so many levels that begins the octets (X.690, 8, 10 and 11), or none where
-/// no such object begins them. No tree is built. It recurses as deep as sequences and sets are nested.
+/// The octets after the DER object of at most so many levels that begins the octets (X.690, 8, 10
+/// and 11), or none if no such object begins them. No tree is built. It recurses as deep as
+/// sequences and sets are nested.
 ///
-/// The count is raised as `parse_der_recursive_counted` raises it, also where there is none: by one for each header tried.
+/// The count is raised as `parse_der_recursive_counted` raises it, also if there is none: by one
+/// for each header tried.
 #[cycle(skipping)]
 pub fn skip_object_counted<'a>(
     i: &'a [u8],
@@ -71,7 +73,7 @@ fn has_two_octets(i: &[u8]) -> bool {
     }
 }
 
-/// `skip_object_counted` where the header has more than two octets, in a function of its own.
+/// `skip_object_counted` if the header has more than two octets, in a function of its own.
 #[cycle(skipping)]
 #[inline(never)]
 fn skip_long<'a>(i: &'a [u8], levels: usize, count: &mut HeaderCount) -> Option<&'a [u8]>

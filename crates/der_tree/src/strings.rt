@@ -3,7 +3,8 @@
 ghost use Rattle.std.specs.Prelude.{◌≡◌, ◌↔◌, ◌<◌, ◌∷◌, MatchOption, IsTrue, IsUtf8, false, true};
 ghost use Rattle.der_tree.specs.Table.{is_bit_string, are_unused_zero};
 
-/// The unused count and the octets of the bits (X.690, 8.6.2), where the unused bits are 0 (X.690, 11.2).
+/// The unused count and the octets of the bits (X.690, 8.6.2), if the unused bits are 0 (X.690,
+/// 11.2).
 pub fn bits_of<'a>(content: &'a [u8]) -> Option<(u8, &'a [u8])>
     ensures { MatchOption result (is_bit_string content.now ≡ false)
         (λ p. (content.now ≡ p.0 ∷ p.1.now) × IsTrue (is_bit_string content.now)) }

@@ -77,8 +77,8 @@ fn clock_of(year: u16, i: &[u8]) -> Option<(Clock, &[u8])>
     Some((clock, i))
 }
 
-/// YYMMDDHHMMSS at the front, YY from 50 on being 19YY (RFC 5280, 4.1.2.5.1), and the octets behind it. Whether the
-/// calendar has the date isn't asked.
+/// YYMMDDHHMMSS at the front, YY from 50 on being 19YY (RFC 5280, 4.1.2.5.1), and the octets after
+/// it. Whether the calendar has the date isn't asked.
 #[tactic(auto, unfolding(crate::specs::TimeReading::utc_at))]
 pub fn utc_of(i: &[u8]) -> Option<(Clock, &[u8])>
     ensures value { option_map (λ p. (moment_of p.0, p.1.now)) result ≡ utc_at i.now }
@@ -99,7 +99,8 @@ fn year_of(year: u8) -> u16
     }
 }
 
-/// YYYYMMDDHHMMSS at the front (X.690, 11.7), and the octets behind it. Whether the calendar has the date isn't asked.
+/// YYYYMMDDHHMMSS at the front (X.690, 11.7), and the octets after it. Whether the calendar has the
+/// date isn't asked.
 #[tactic(auto, unfolding(crate::specs::TimeReading::generalized_at))]
 pub fn generalized_of(i: &[u8]) -> Option<(Clock, &[u8])>
     ensures value { option_map (λ p. (moment_of p.0, p.1.now)) result ≡ generalized_at i.now }
@@ -127,7 +128,7 @@ fn is_real(clock: Clock) -> bool
     .is_ok()
 }
 
-/// Whether Z alone stands there.
+/// Whether the octets are Z alone.
 fn is_end(i: &[u8]) -> bool
     ensures { IsTrue result ↔ (i.now ≡ 90 ∷ []) }
 {
@@ -137,7 +138,7 @@ fn is_end(i: &[u8]) -> bool
     }
 }
 
-/// Whether Z stands there, behind a fraction of a second or nothing.
+/// Whether the octets are Z, after a fraction of a second or nothing.
 fn ends_time(i: &[u8]) -> bool
     ensures { IsTrue result ↔ EndsTime i.now }
 {

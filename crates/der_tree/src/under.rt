@@ -15,10 +15,11 @@ use asn1_core::{Class, Err as Refusal, Error, Header, HeaderCount};
 use std::alloc::Global;
 
 /// What the content holds by the table's line of the header's tag number, whatever the header's class: a SEQUENCE's and a
-/// SET's parts are objects of at most so many levels. The length that the header tells isn't looked at; a raw element keeps it.
+/// SET's parts are objects of at most so many levels. The length in the header isn't looked at; a
+/// raw element keeps it.
 ///
-/// Refusals: `Failure` of `OutOfMemory` where memory ran out, and else an error: the line doesn't allow the content or the
-/// constructed bit.
+/// Refusals: `Failure` of `OutOfMemory` if memory ran out, and else an error: the line doesn't
+/// allow the content or the constructed bit.
 pub fn content_under<'a>(
     alloc: Global,
     header: Header,
@@ -41,7 +42,7 @@ pub fn content_under<'a>(
     )
 }
 
-/// The same for a tag number whose elements have no parts. It takes no memory.
+/// The content under a tag number whose elements have no parts. It allocates nothing.
 ///
 /// Errors: `ConstructUnexpected` of a constructed element of a type that is primitive; `InvalidLength` of a BOOLEAN or a NULL;
 /// `BerValueError` of a number, of bits or an identifier; `StringInvalidCharset` of a text; `InvalidDateTime` of a time;

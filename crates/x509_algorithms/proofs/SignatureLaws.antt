@@ -38,7 +38,7 @@ pub pss_alone : (a : Algorithm) (Q : Type 0) (v : values.SignatureAlgorithm) →
 pss_alone a Q v none so (of_pss p there same) = so p there
 pss_alone a Q v none so (of_plain is) = absurd (none v is)
 
--- an element that was there is the one that is told
+-- an element that was there is the one that the error names
 pub element_is : (o : Option Any) (any : Any) (e : Element) → o ≡ Some any → option_map any_of o ≡ Some e → any_of any ≡ e
 element_is None any e is given = cc
 element_is (Some b) any e is given =
@@ -75,7 +75,7 @@ unsigned_still a x (Err e) id there refused = unsigned_by a x e id there refused
 fronts_differ : (front other identifier : List ℕ) (r s : List ℕ) → identifier ≡ front ++ r → identifier ≡ other ++ s → front ++ r ≡ other ++ s
 fronts_differ front other identifier r s first second = sym first ∙ second
 
--- the fifth octet tells
+-- the fifth octet decides
 arcs_differ : (identifier r s : List ℕ) → identifier ≡ ansi_x962_signatures ++ r → identifier ≡ x9_57 ++ s → ⊥
 arcs_differ identifier r s ecdsa dsa =
     let wrong : false ≡ true = ap (λ (z : List ℕ). bytes_eq (take 5 z) (take 5 x9_57)) (sym ecdsa ∙ dsa) in

@@ -19,7 +19,7 @@ use Rattle.x509_algorithms.specs.Reading.{content_or_none, tagged_content, inner
 abbrev Whole : Grammar (List ℕ)
 Whole octets v rest = (v ≡ octets) × (rest ≡ [])
 
--- what was read of an element: its content and the octets behind it, or none and all octets
+-- what was read of an element: its content and the octets after it, or none and all octets
 tagged_case : (n : ℕ) (i : List ℕ) (q : Piece) (after : List ℕ) (o : Option (List ℕ)) (r : List ℕ) → IsPieceRead i q after → AllBelowBase 256 i
     → content_or_none n i q.element after ≡ Ok (o, r) → Tagged n Whole i o r × AllBelowBase 256 r
 tagged_case n i q after o r read below given =
@@ -61,7 +61,7 @@ tagged_absent n (x ∷ s) (inl none) = cc
 tagged_absent n (x ∷ s) (inr is) =
     rw (piece_only (x ∷ s) is.1.piece is.0 is.1.spells is.1.whole, differ_tags is.1.piece.element.tag n is.1.means.tag) refl
 
--- what stands within an optional content
+-- what is within an optional content
 inner_found : {A : Type 0} (n : ℕ) (P : Grammar A) (p : Reader A) → IsReading P p → (i : List ℕ) (o : Option (List ℕ)) (after : List ℕ) (v : Option A) → AllBelowBase 256 i
     → Tagged n Whole i o after → inner_at p o ≡ Ok v → Tagged n P i v after
 inner_found n P p reading i None after v below is given =

@@ -49,6 +49,7 @@ WantsFor need (refusals.Incomplete n) = Unit {0}
 WantsFor need (refusals.Error e) = Unit {0}
 WantsFor need (refusals.Failure e) = need
 
--- memory is wanted for algorithms alone, which stand under the tag numbers below n: the first part is one
+-- memory is allocated for algorithms alone, which are under the tag numbers below n: the first part
+-- is one
 abbrev pub WantsBelow : ℕ → Element → X509Error → Type 0
 WantsBelow n e x = x ≡ errors.OutOfMemory → (e.tag ≡ 16) × HasPartBelow n e.content

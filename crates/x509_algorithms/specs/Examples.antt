@@ -11,7 +11,7 @@ signature_octets = 0x30 ∷ 0x06 ∷ 0x02 ∷ 0x01 ∷ 0x01 ∷ 0x02 ∷ 0x01 �
 abbrev pub signature : values.EcdsaSigValue
 signature = record { r = 0x01 ∷ []; s = 0x02 ∷ [] }
 
--- parameters that tell nothing
+-- parameters that hold nothing
 abbrev pub nothing_octets : List ℕ
 nothing_octets = 0x30 ∷ 0x00 ∷ []
 

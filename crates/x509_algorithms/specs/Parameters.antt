@@ -1,5 +1,5 @@
--- Parameters of RSASSA-PSS and RSAES-OAEP, as they are read leniently (RFC 8017, A.2). A part is told by its tag number; what is left
--- of the content of an element is ignored.
+-- Parameters of RSASSA-PSS and RSAES-OAEP, as they are read leniently (RFC 8017, A.2). A part is
+-- known by its tag number; what is left of the content of an element is ignored.
 use Rattle.std.specs.Prelude.{◌≡◌, ◌≢◌, ◌⊎◌, ℕ, true, List, [], Option, Some, None}
 use Rattle.asn1_core.specs.Elements.{Element}
 use Rattle.asn1_core.specs.Strict.{Head}
@@ -45,7 +45,7 @@ pub record OtherHeader (n : ℕ) (octets : List ℕ) : Type 0 where
   pub header : Header octets head after
   pub tag : head.tag ≢ n
 
--- such an element; or none, where no octet is left, or a header of another tag number is next
+-- such an element; or none, if no octet is left, or a header of another tag number is next
 abbrev pub Explicit : {A : Type 0} → ℕ → Grammar A → Grammar (Option A)
 Explicit n P octets (Some v) rest = One (HoldsExplicit n P) octets v rest
 Explicit n P octets None rest = ((octets ≡ []) ⊎ OtherHeader n octets) × (rest ≡ octets)
@@ -118,7 +118,8 @@ abbrev pub hash_of : Option Algorithm → List ℕ
 hash_of None = sha1
 hash_of (Some a) = a.identifier
 
--- MGF1 with SHA-1 where none is told; else the identifier that begins the content of the parameters is the hash
+-- MGF1 with SHA-1 if there is none; else the identifier that begins the content of the parameters
+-- is the hash
 abbrev pub IsMaskGen : Option Algorithm → values.MaskGenAlgorithm → Type 0
 IsMaskGen None m = m ≡ record { mgf = mgf1; hash = sha1 }
 IsMaskGen (Some a) m = (m.mgf ≡ a.identifier) × (e : Element) × (left : List ℕ) × (a.parameters ≡ Some e) × One IsOid e.content m.hash left

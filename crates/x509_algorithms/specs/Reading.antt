@@ -1,4 +1,5 @@
--- The readers of this crate as functions on octets. What they read stands in `Parameters` and `Signatures`; laws tie each function to it.
+-- The readers of this crate as functions on octets. What they read is defined in `Parameters` and
+-- `Signatures`; laws tie each function to it.
 use Rattle.std.specs.Prelude.{ℕ, ◌==◌, ◌&&◌, if◌then◌else◌, List, [], ◌∷◌, Option, Some, None, Ok, Err}
 use Rattle.asn1_core.specs.Elements.{Element}
 use Rattle.asn1_core.specs.Strict.{Head}
@@ -23,7 +24,7 @@ ecdsa_in = sequence_of ecdsa_parts_at
 abbrev pub ecdsa_at : Reader values.EcdsaSigValue
 ecdsa_at = next ecdsa_in
 
--- the content under a tag of the context class, and the octets behind it; or none, and all octets
+-- the content under a tag of the context class, and the octets after it; or none, and all octets
 abbrev pub content_or_none : ℕ → List ℕ → Element → List ℕ → Answer (Option (List ℕ) × List ℕ)
 content_or_none n i e rest = if e.tag == n then (if e.class == 2 then Ok (Some e.content, rest) else Err unnamed) else Ok (None, i)
 
@@ -91,7 +92,7 @@ parameters_of p e = do
   v ← p content
   Ok v.0
 
--- the same of a constructed one
+-- what a constructed element of tag number 16 holds
 abbrev pub parameters_in : {A : Type 0} → Reader A → Piece → Answer A
 parameters_in p piece = if piece.element.constructed then parameters_of p piece.element else Err unnamed
 

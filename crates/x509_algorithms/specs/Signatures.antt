@@ -27,8 +27,9 @@ pub record IsPss (a : Algorithm) (p : values.RsaSsaPssParams) : Type 0 where
   pub parameters : a.parameters ≡ Some element
   pub means : PssOf element p
 
--- What an identifier is by itself: of RSA whatever stands under PKCS #1 but RSASSA-PSS (RFC 8017, appendix C), so RSAES-OAEP too;
--- ECDSA and DSA whatever stands under their arcs (RFC 3279, 2.2.2 and 2.2.3); Ed25519 one alone (RFC 8410, 3).
+-- What an identifier is by itself: of RSA whatever is under PKCS #1 but RSASSA-PSS (RFC 8017,
+-- appendix C), so RSAES-OAEP too; ECDSA and DSA whatever is under their arcs (RFC 3279, 2.2.2 and
+-- 2.2.3); Ed25519 one alone (RFC 8410, 3).
 pub data IsPlain (identifier : List ℕ) (v : values.SignatureAlgorithm) : Type 0 where
   is_rsa : identifier ≢ rsassa_pss_id → IsFront pkcs_1 identifier → v ≡ values.rsa → IsPlain identifier v
   is_ecdsa : IsFront ansi_x962_signatures identifier → v ≡ values.ecdsa → IsPlain identifier v

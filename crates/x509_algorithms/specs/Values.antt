@@ -1,4 +1,5 @@
--- What the values of this crate's types stand for. Object identifiers and numbers stand as their content octets.
+-- What the values of this crate's types stand for. Object identifiers and numbers are given as
+-- their content octets.
 use Rattle.std.specs.Prelude.{ℕ, List, Option}
 use Rattle.x509_names.specs.Fields.{Algorithm}
 
@@ -7,14 +8,14 @@ pub record EcdsaSigValue : Type 0 where
   pub r : List ℕ
   pub s : List ℕ
 
--- RSASSA-PSS-params (RFC 8017, A.2.3), as they stand: no default is filled in
+-- RSASSA-PSS-params (RFC 8017, A.2.3), as they are encoded: no default is filled in
 pub record RsaSsaPssParams : Type 0 where
   pub hash_alg : Option Algorithm
   pub mask_gen_algorithm : Option Algorithm
   pub salt_length : Option ℕ
   pub trailer_field : Option ℕ
 
--- RSAES-OAEP-params (RFC 8017, A.2.1), as they stand
+-- RSAES-OAEP-params (RFC 8017, A.2.1), as they are encoded
 pub record RsaAesOaepParams : Type 0 where
   pub hash_alg : Option Algorithm
   pub mask_gen_alg : Option Algorithm

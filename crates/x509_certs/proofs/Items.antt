@@ -33,7 +33,7 @@ no_version class rest in_class =
       tag = λ e. cc e;
     }) refl refl
 
--- what stands behind the subject's key, the issuer's name and so on, up to the serial number
+-- what comes after the subject's key, the issuer's name and so on, up to the serial number
 abbrev from_key : List ℕ → List ℕ
 from_key rest = key_octets ++ rest
 

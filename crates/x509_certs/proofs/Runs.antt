@@ -45,7 +45,7 @@ fails_on (refusals.Error (errors.Der e)) m f fails = (fails.0, ap (λ z. z >>= f
 fails_on (refusals.Error (errors.NomError k)) m f fails = ap (λ z. z >>= f) fails
 fails_on (refusals.Error e) m f fails = ap (λ z. z >>= f) fails
 
--- ---- each run, and all behind it
+-- ---- each run, and all after it
 
 abbrev pub Ended : Type 0
 Ended = Option Bits → Option Bits → List Extension → Tbs

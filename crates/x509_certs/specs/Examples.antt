@@ -40,8 +40,8 @@ plain_tbs identifier = record {
 abbrev pub plain : ℕ → Certificate
 plain identifier = record { tbs = plain_tbs identifier; algorithm = algorithm; signature_value = key.key; raw = plain_octets identifier }
 
--- The same of version 3, with one extension: basic constraints (2.5.29.19), an empty sequence. The length of the wrapper is an
--- argument: it is 0d where it is right, and isn't used.
+-- A certificate of version 3, with one extension: basic constraints (2.5.29.19), an empty sequence.
+-- The length of the wrapper is an argument: it is 0d if it is right, and isn't used.
 abbrev pub constrained_signed : ℕ → List ℕ
 constrained_signed size =
     0x30 ∷ 0x4c ∷ 0xa0 ∷ 0x03 ∷ 0x02 ∷ 0x01 ∷ 0x02 ∷ 0x02 ∷ 0x01 ∷ 0x01 ∷ 0x30 ∷ 0x04 ∷ 0x06 ∷ 0x02 ∷ 0x2a ∷ 0x03 ∷ 0x30 ∷ 0x00 ∷ 0x30 ∷ 0x1e ∷ 0x17 ∷ 0x0d ∷

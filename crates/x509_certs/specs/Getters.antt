@@ -1,4 +1,4 @@
--- What the calls on certificates tell of the only extension of an identifier (RFC 5280, 4.2.1).
+-- What the calls on certificates return of the only extension of an identifier (RFC 5280, 4.2.1).
 use Rattle.std.specs.Prelude.{ℕ, Bool, false, List, Option, Some, None, Result, Ok, Err}
 use Rattle.std.specs.Borrow.{Bor}
 use Rattle.x509_core.specs.declared.error.X509Error.{X509Error}
@@ -56,18 +56,18 @@ abbrev pub or_refused : {T : Type 0} → Bool → Option T → Told T
 or_refused critical (Some value) = Ok (Some (critical, value))
 or_refused critical None = Err errors.InvalidExtensions
 
--- of the only extension, where there is one
+-- of the only extension, if there is one
 abbrev pub of_only : {T : Type 0} → (X509Extension → Told T) → Result (Option X509Extension) X509Error → Told T
 of_only f (Ok (Some e)) = f e
 of_only f (Ok None) = Ok None
 of_only f (Err e) = Err e
 
--- the value of the only extension of this identifier: none where there is none, `DuplicateExtensions` where there are several,
--- `InvalidExtensions` where it is parsed otherwise
+-- the value of the only extension of this identifier: none if there is none, `DuplicateExtensions`
+-- if there are several, `InvalidExtensions` if it is parsed otherwise
 abbrev pub value_of : {T : Type 0} → List ℕ → (ParsedExtension → Option T) → List X509Extension → Told T
 value_of identifier pick extensions = of_only (λ e. or_refused e.critical (pick e.parsed_extension)) (only_of (all_of identifier extensions))
 
--- basic constraints, 2.5.29.19: none too where they are parsed otherwise
+-- basic constraints, 2.5.29.19: none too if they are parsed otherwise
 abbrev pub constraints_of : List X509Extension → Told BasicConstraints
 constraints_of extensions = of_only (λ e. or_none e.critical (constraints_in e.parsed_extension)) (only_of (all_of (id_ce 19) extensions))
 
@@ -77,7 +77,7 @@ says_authority (Ok (Some c)) = c.1.ca
 says_authority (Ok None) = false
 says_authority (Err e) = false
 
--- what was answered, without where it lies
+-- what was returned, without where it lies
 abbrev pub told_view : {T : Type 0} → Result (Option (BasicExtension (Bor T))) X509Error → Told T
 told_view (Ok (Some e)) = Ok (Some (e.critical, e.value.now))
 told_view (Ok None) = Ok None

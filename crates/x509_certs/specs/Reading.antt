@@ -1,5 +1,5 @@
 -- The readers of certificates as functions on octets, with the refusals that are promised, in their order. What they read
--- stands in `Certificates`; laws tie each function to it.
+-- is defined in `Certificates`; laws tie each function to it.
 use Rattle.std.specs.Prelude.{ℕ, List, Option, Ok}
 use Rattle.asn1_any.specs.Cutting.{Piece}
 use Rattle.x509_core.specs.Answers.{Answer, naming, ◌>>=◌}

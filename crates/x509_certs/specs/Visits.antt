@@ -17,7 +17,7 @@ use Rattle.x509_certs.specs.declared.tbs.TbsCertificate.{TbsCertificate}
 use Rattle.x509_certs.specs.declared.visit.CertVisit.{CertVisit}
 use Rattle.x509_certs.specs.declared.visit.CertVisit.TheVariants as cases
 
--- a call, and what it tells
+-- a call, and what it reports
 pub data Call : Type 0 where
   visit_tbs_certificate : TbsCertificate → Call
   visit_version : X509Version → Call
@@ -113,7 +113,7 @@ call_by_kind extension (kinds.SCT value) = visit_extension_sct value.items
 call_by_kind extension (kinds.ParseError error) = visit_extension_parse_error extension error
 call_by_kind extension value = visit_extension_unknown extension
 
--- an extension has two calls: it as it stands, and then by its kind
+-- an extension has two calls: it as it is encoded, and then by its kind
 abbrev pub calls_of_extension : X509Extension → List Call
 calls_of_extension e = visit_extension e ∷ call_by_kind e e.parsed_extension ∷ []
 
@@ -122,7 +122,7 @@ abbrev pub calls_of_extensions : List X509Extension → List Call
 calls_of_extensions [] = []
 calls_of_extensions (e ∷ es) = calls_of_extension e ++ calls_of_extensions es
 
--- those of the signed part, but for the one that tells all of it
+-- those of the signed part, but for the one that reports all of it
 abbrev pub calls_of_tbs : TbsCertificate → List Call
 calls_of_tbs t =
     visit_version t.version

@@ -15,11 +15,11 @@ use Rattle.x509_core.specs.Parts.{IsCut, ahead_of}
 pub none_left : (octets : List ℕ) → AllBelowBase 256 octets → ¬ HasElement octets → IsCut octets []
 none_left octets below none = record { below = below; tail = octets; cutting = record { whole = refl; each = tt; last = none }; counted = All-nil HasCountedContent }
 
--- the octets behind others
+-- the octets after others
 pub below_rest : (octets front rest : List ℕ) → AllBelowBase 256 octets → octets ≡ front ++ rest → AllBelowBase 256 rest
 below_rest octets front rest below whole = append_below 256 front rest (subst (AllBelowBase 256) whole below)
 
--- one element, and those that the octets behind it are cut into
+-- one element, and those that the octets after it are cut into
 pub one_left : (octets rest : List ℕ) (e : Element) (others : List Element) → AllBelowBase 256 octets → IsPiece (piece_of e) → HasCountedContent e → octets ≡ e.octets.now ++ rest → IsCut rest others → IsCut octets (e ∷ others)
 one_left octets rest e others below here length whole cut = record {
   below = below;

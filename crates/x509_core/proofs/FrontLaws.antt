@@ -21,13 +21,13 @@ use Rattle.x509_core.proofs.Many.{error_by}
 use Rattle.x509_core.proofs.Public.{gives_only}
 use Rattle.x509_core.specs.Fronts.{TellsMissing, IsWindow, IsOnly}
 
--- where octets of an element are missing, no value of one begins with fewer of them
+-- if octets of an element are missing, no value of one begins with fewer of them
 lacks : {A : Type 0} (M : Piece → A → Type 0) (octets : List ℕ) (n : Needed) → IsMissing HasElement octets (refusals.Incomplete n) → (V : Type 0) (view : V → A) → Lacks (λ o (v : V) r. One M o (view v) r) octets n
 lacks M octets needed.Unknown missing V view = absurd missing
 lacks M octets (needed.Size n) missing V view =
     (missing.0, λ more short v rest is. missing.1 more short (is.piece.element, rest, record { front = is.piece.octets; spells = is.spells; whole = is.whole }))
 
--- an error of a reading isn't want of memory
+-- an error of a reading isn't `OutOfMemory`
 no_memory : {A : Type 0} (e : X509Error) (read : Answer A) → FailsWith e read → IsNoMemory (λ given x. x ≡ told given) e
 no_memory e read fails = inr (λ is. subst (λ z. FailsWith z read) is fails)
 
@@ -49,7 +49,7 @@ gives_reads M p meaning view i (Err (refusals.Error e)) below given missing =
     (none_reads (One M) (next p) (next_reading M p meaning) view i e below given, no_memory e (next p i) given, missing)
 gives_reads M p meaning view i (Err (refusals.Failure e)) below given missing = (given, tt)
 
--- a reading whose refusals are named reads the same
+-- a reading reads one grammar, whether or not its refusals are named
 pub named_reading : {A : Type 0} (P : Grammar A) (p : Reader A) (e : X509Error) → IsReading P p → IsReading P (λ i. naming e (p i))
 named_reading P p e reading = record {
   found = λ i v r below given. reading.found i v r below (was_named e (p i) (v, r) given);
@@ -77,7 +77,7 @@ gives_only_whole P p reading view i x (Err (refusals.Error e)) below given by v 
     absurd (gives_only P p reading view i (Err (refusals.Error e)) below given v rest is)
 gives_only_whole P p reading view i x (Err (refusals.Failure e)) below given by v rest is = cc by
 
--- a reader whose refusals have one name, but for want of memory
+-- a reader whose refusals have one name, but for `OutOfMemory`
 pub gives_only_named : {X A : Type 0} (P : Grammar A) (p : Reader A) → IsReading P p → (view : X → A) (i : List ℕ) (x : X509Error) (answer : Result (Bor (List ℕ) × X) (Refusal X509Error)) → AllBelowBase 256 i
     → Gives (λ r. (view r.1, r.0.now)) answer (p i) → IfErr answer (IsOnly x)
     → Reads (λ given e. e ≡ told given) (Unit {0}) (λ _ _. ⊥) (λ (z : Bor (List ℕ)). z.now) (λ o (v : X) r. P o (view v) r) i answer

@@ -10,7 +10,7 @@ some_front e None third others = (others, refl)
 some_front e (Some y) None others = (y ∷ others, refl)
 some_front e (Some y) (Some z) others = (y ∷ z ∷ others, refl)
 
--- two lists with the same first element
+-- two lists with one first element
 tail_or : List Element → List Element → List Element
 tail_or none [] = none
 tail_or none (x ∷ xs) = xs
@@ -23,7 +23,7 @@ same_rest whole rest e x other here there = ap (tail_or rest) (sym there ∙ her
 pub before_front : (old new rest : List Element) (e : Element) → old ≡ e ∷ rest → new ≡ rest → old ≡ e ∷ new
 before_front old new rest e here is = subst (λ r. old ≡ e ∷ r) (sym is) here
 
--- the others alone, where none is by itself
+-- the others alone, if none is by itself
 pub others_only : (a : Ahead) → a.front ≡ None → ahead_of a ≡ drop a.at a.others.items
 unfolding ahead_of
 others_only a none = rw none refl

@@ -23,7 +23,7 @@ tags_differ a b e = λ same. let wrong = tags_equal a b same in cc
 pub differ_tags : (a b : ℕ) → a ≢ b → (a == b) ≡ false
 differ_tags a b other = grind (arith, nat_tests)
 
--- ---- what was told plainly
+-- ---- errors that are returned as they are
 
 pub was_plain : {A : Type 0} (r : Result A Error) (x : A) → plain (result_ok r) ≡ Ok x → r ≡ Ok x
 was_plain (Ok y) x given = let same : y ≡ x = cc in ap (λ z. Ok z) same
@@ -81,7 +81,7 @@ leaf_meaning n means f found only = record {
   only = λ q v spells below is. rw (leaf_only n q.element is.leaf) (only q.element.content v is.meant);
 }
 
--- the same where the leaf's reader tells whether there is a value
+-- errors that are returned as they are, if the leaf's reader says whether there is a value
 option_case : {A : Type 0} (t c : Bool) (r : Option A) (v : A) → (if not t || c then None else r) ≡ Some v → (t ≡ true) × (c ≡ false) × (r ≡ Some v)
 option_case true true r v given = cc
 option_case true false r v given = (refl, refl, given)

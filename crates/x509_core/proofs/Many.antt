@@ -90,7 +90,7 @@ error_by (errors.Der e) read fails = (unnamed, fails.1)
 error_by (errors.NomError k) read fails = (unnamed, fails)
 error_by e read fails = (named e, fails)
 
--- a refusal that isn't want of memory is the reading's
+-- a refusal that isn't `OutOfMemory` is the reading's
 pub refused_by : {Y : Type 0} (r : Refusal X509Error) (read : Answer Y) → Fails r read → ((e : X509Error) → r ≡ refusals.Failure e → ⊥) → (y : Why) × (read ≡ Err y)
 refused_by (refusals.Incomplete n) read fails other = (unnamed, fails)
 refused_by (refusals.Failure e) read fails other = absurd (other e refl)

@@ -26,7 +26,7 @@ element_read octets rest front e begins whole =
     let read : any_der octets ≡ Some (e, rest) = ap result_ok (der_only octets rest e begins) in
     rw (read, front_is octets front rest whole) refl
 
--- where none begins them, none is read
+-- if none begins them, none is read
 pub none_read : (octets : List ℕ) → AllBelowBase 256 octets → ¬ HasElement octets → piece_at octets ≡ Err unnamed
 unfolding piece_at
 none_read octets below none =
@@ -60,7 +60,7 @@ at_front octets after elements others e cut here left =
       counted = All-head HasCountedContent e others counted;
     }
 
--- what was told to be at the front is what is read there
+-- what is said to be at the front is what is read there
 pub record IsPassed (octets : List ℕ) (x : Piece) (after : List ℕ) : Type 0 where
   pub read : piece_at octets ≡ Ok (x, after)
   pub shorter : length x.octets + length after ≡ length octets

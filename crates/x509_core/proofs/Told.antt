@@ -1,4 +1,4 @@
--- Refusals of elements, told by a reader of certificates.
+-- Refusals of elements, as reported by a reader of certificates.
 use Rattle.std.proofs.Common.{◌≡◌, ◌≢◌, refl, sym, ap, subst, ℕ, List, Err}
 use Rattle.std.specs.Result.{result_ok}
 use Rattle.std.specs.Int.Digits.{AllBelowBase}

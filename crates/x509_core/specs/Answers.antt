@@ -1,4 +1,4 @@
--- What a reader of certificates answers, and how a call's result gives it.
+-- What a reader of certificates returns, and how a call's result gives it.
 use Rattle.std.specs.Prelude.{◌≡◌, ◌≢◌, ℕ, List, Option, Some, None, Result, Ok, Err}
 use Rattle.asn1_core.specs.declared.error.Error.TheVariants as der
 use Rattle.asn1_core.specs.declared.outcome.Err.{Err as Refusal}
@@ -37,7 +37,7 @@ FailsWith (errors.Der e) read = (e ≢ der.OutOfMemory) × (read ≡ Err unnamed
 FailsWith (errors.NomError k) read = read ≡ Err unnamed
 FailsWith e read = read ≡ Err (named e)
 
--- a refusal, and the reading's; a failure is want of memory, and says nothing of the octets
+-- a refusal, and the reading's; a failure is lack of memory, and says nothing of the octets
 abbrev pub Fails : {Y : Type 0} → Refusal X509Error → Answer Y → Type 0
 Fails (refusals.Incomplete n) read = read ≡ Err unnamed
 Fails (refusals.Error e) read = FailsWith e read
@@ -48,14 +48,14 @@ abbrev pub Gives : {X Y : Type 0} → (X → Y) → Result X (Refusal X509Error)
 Gives view (Ok x) read = read ≡ Ok (view x)
 Gives view (Err e) read = Fails e read
 
--- an error of a part, told as such
+-- an error of a part, named as such
 abbrev pub IsName : X509Error → Type 0
 IsName errors.OutOfMemory = ⊥
 IsName (errors.Der e) = ⊥
 IsName (errors.NomError k) = ⊥
 IsName e = Unit {0}
 
--- the same answer, every refusal but want of memory being told by this error
+-- a result, with this error in the place of every refusal but `OutOfMemory`
 abbrev pub Named : {X : Type 0} → X509Error → Result X (Refusal X509Error) → Result X (Refusal X509Error) → Type 0
 Named name (Ok x) result = result ≡ Ok x
 Named name (Err (refusals.Failure e)) result = result ≡ Err (refusals.Failure e)

@@ -1,4 +1,4 @@
--- How an error of an element is told by a reader of certificates, and what errors print.
+-- How an error of an element is reported by a reader of certificates, and what errors print.
 use Rattle.std.specs.Prelude.{ℕ, List, ◌++◌, codes}
 use Rattle.asn1_core.specs.Texts.{error_text, kind_text}
 use Rattle.asn1_core.specs.declared.error.Error.{Error}
@@ -8,7 +8,7 @@ use Rattle.asn1_core.specs.declared.outcome.Err.TheVariants as refusals
 use Rattle.x509_core.specs.declared.error.X509Error.{X509Error}
 use Rattle.x509_core.specs.declared.error.X509Error.TheVariants as errors
 
--- want of memory stays want of memory
+-- `OutOfMemory` stays `OutOfMemory`
 abbrev pub told : Error → X509Error
 told der.OutOfMemory = errors.OutOfMemory
 told e = errors.Der e

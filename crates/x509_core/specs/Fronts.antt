@@ -11,7 +11,7 @@ use Rattle.x509_core.specs.Grammar.{One}
 use Rattle.x509_core.specs.declared.error.X509Error.{X509Error}
 use Rattle.x509_core.specs.declared.error.X509Error.TheVariants as errors
 
--- octets are missing exactly where the octets end within their first element
+-- octets are missing exactly if the octets end within their first element
 abbrev pub TellsMissing : {X : Type 0} → List ℕ → Result X (Refusal X509Error) → Type 0
 TellsMissing i (Ok x) = Unit {0}
 TellsMissing i (Err (refusals.Incomplete n)) = EndsWithinElement i n
@@ -25,13 +25,14 @@ one_rest M octets v w r s left right =
     (record { front = left.piece.octets; spells = left.spells; whole = left.whole })
     (record { front = right.piece.octets; spells = right.spells; whole = right.whole })).1
 
--- the same refusal, of a whole element: octets that are missing in it are its fault
+-- a refusal of a content as the refusal of its whole element: octets that are missing in it are its
+-- fault
 abbrev pub IsWithin : Refusal X509Error → Refusal X509Error → Type 0
 IsWithin (refusals.Incomplete n) r = r ≡ refusals.Error (errors.Der (der.Incomplete n))
 IsWithin (refusals.Error e) r = r ≡ refusals.Error e
 IsWithin (refusals.Failure e) r = r ≡ refusals.Failure e
 
--- no refusal for want of memory
+-- no refusal for lack of memory
 abbrev pub TakesNoMemory : Refusal X509Error → Type 0
 TakesNoMemory (refusals.Incomplete n) = Unit {0}
 TakesNoMemory (refusals.Error e) = Unit {0}
@@ -41,7 +42,7 @@ TakesNoMemory (refusals.Failure e) = ⊥
 abbrev pub IsWindow : List ℕ → List ℕ → List ℕ → Type 0
 IsWindow octets raw rest = (ignored : List ℕ) × (octets ≡ raw ++ (ignored ++ rest))
 
--- refused by this error, or for want of memory
+-- refused by this error, or for lack of memory
 abbrev pub IsOnly : X509Error → Refusal X509Error → Type 0
 IsOnly name (refusals.Incomplete n) = ⊥
 IsOnly name (refusals.Error e) = e ≡ name

@@ -1,5 +1,5 @@
 -- Lenient grammars, as relations between a front of octets, a value and the octets after it. What ASN.1 type a grammar reads
--- stands beside it where it is used; how content is cut plays no part.
+-- is said beside it at its use; how content is cut plays no part.
 use Rattle.std.specs.Prelude.{◌≡◌, ℕ, List, [], ◌∷◌, ◌++◌, Option, Some, None}
 use Rattle.asn1_core.specs.Strict.{Head, IsHead}
 use Rattle.asn1_core.specs.Lenient.{SpellsHeader}
@@ -67,16 +67,16 @@ AsMany P octets (v ∷ vs) rest = (after : List ℕ) × P octets v after × AsMa
 abbrev pub All : {A : Type 0} → Grammar A → List ℕ → List A → Type 0
 All P octets vs = AsMany P octets vs []
 
--- the same as a grammar: nothing comes after it
+-- P repeated to the end, as a grammar: nothing comes after it
 abbrev pub ToEnd : {A : Type 0} → Grammar A → Grammar (List A)
 ToEnd P octets vs rest = All P octets vs × (rest ≡ [])
 
--- P, or nothing where P doesn't begin there
+-- P, or nothing if P doesn't begin there
 abbrev pub Maybe : {A : Type 0} → Grammar A → Grammar (Option A)
 Maybe P octets (Some v) rest = P octets v rest
 Maybe P octets None rest = (octets ≡ rest) × NoneBegins P octets
 
--- P, or nothing where no octet is left
+-- P, or nothing if no octet is left
 abbrev pub UnlessAtEnd : {A : Type 0} → Grammar A → Grammar (Option A)
 UnlessAtEnd P octets (Some v) rest = P octets v rest
 UnlessAtEnd P octets None rest = (octets ≡ []) × (rest ≡ [])

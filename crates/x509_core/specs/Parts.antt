@@ -6,7 +6,7 @@ use Rattle.asn1_any.specs.Cutting.{IsCutting}
 use Rattle.asn1_any.specs.CutViews.{HasCountedContent, pieces_of}
 use Rattle.x509_core.specs.declared.ahead.Ahead.{Ahead}
 
--- the octets that are left, and how many elements stand in them
+-- the octets that are left, and how many elements are in them
 pub record Left : Type 0 where
   pub octets : List ℕ
   pub elements : ℕ

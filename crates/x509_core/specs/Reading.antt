@@ -50,7 +50,7 @@ box n p i = do
   v ← inside n p e.0
   Ok (v.0, e.1)
 
--- what is read at the front goes before what is read behind it; what takes no octet doesn't begin
+-- what is read at the front goes before what is read after it; what takes no octet doesn't begin
 abbrev pub many_after : {A : Type 0} → (List ℕ → List A × List ℕ) → List ℕ → Answer (A × List ℕ) → List A × List ℕ
 many_after go i (Err e) = ([], i)
 many_after go i (Ok x) = if nat_lt (length x.1) (length i) then (x.0 ∷ (go x.1).0, (go x.1).1) else ([], i)

@@ -182,7 +182,7 @@ unfolding extension_list_at
 list_only Means parse law i es below is =
     rw ((next_reading (Holds 16 (ToEnd (X509Extension Means))) (λ p. extension_list_in parse p.element) (list_meaning Means parse law)).only i es [] below is) refl
 
--- ---- where they stand
+-- ---- where they are
 
 pub extensions_found : (Means : ValueMeaning) (parse : ValueReading) → IsValueLaw Means parse → (n : ℕ) (i : List ℕ) (es : List Extension) → AllBelowBase 256 i → extensions_at parse n i ≡ Ok es → Extensions Means n i es []
 extensions_found Means parse law n [] es below given = let none : [] ≡ es = cc in absent (refl {a = []}) (sym none) (refl {a = []})

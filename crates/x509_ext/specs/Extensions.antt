@@ -1,4 +1,5 @@
--- Extensions (RFC 5280, 4.1 and 4.2), and where they stand in certificates and lists. How a value is parsed is an argument.
+-- Extensions (RFC 5280, 4.1 and 4.2), and where they are in certificates and lists. How a value is
+-- parsed is an argument.
 use Rattle.std.specs.Prelude.{◌≡◌, ℕ, Bool, false, List, [], Option, Some, None}
 use Rattle.asn1_any.specs.Cutting.{Piece}
 use Rattle.asn1_core.specs.Strict.{Head}
@@ -42,7 +43,7 @@ pub record Wrapped (Means : ValueMeaning) (n : ℕ) (octets : List ℕ) (extensi
   pub tag : head.tag ≡ n
   pub list : ExtensionList Means after_header extensions []
 
--- [n] EXPLICIT Extensions OPTIONAL, at the end of a signed part: nothing where no octet is left
+-- [n] EXPLICIT Extensions OPTIONAL, at the end of a signed part: nothing if no octet is left
 pub data Extensions (Means : ValueMeaning) (n : ℕ) (octets : List ℕ) (extensions : List Extension) (rest : List ℕ) : Type 0 where
   absent : octets ≡ [] → extensions ≡ [] → rest ≡ [] → Extensions Means n octets extensions rest
   there : Wrapped Means n octets extensions → rest ≡ [] → Extensions Means n octets extensions rest

@@ -1,4 +1,4 @@
--- Values by identifier, where no two have the same one.
+-- Values by identifier, no identifier twice.
 use Rattle.std.specs.Prelude.{◌≡◌, ◌≤◌, ◌⊎◌, ℕ, List, length, Option, Some, None, bytes_eq}
 use Rattle.std.specs.BTreeMap.{BTreeMap, get}
 use Rattle.std.specs.Cmp.Lexicographic.{slice_cmp}
@@ -7,7 +7,7 @@ use Rattle.std.specs.Ordering.{nat_cmp}
 use Rattle.x509_core.specs.declared.error.X509Error.{X509Error}
 use Rattle.x509_core.specs.declared.error.X509Error.TheVariants as errors
 
--- what a map by identifiers, which stand as their content octets, holds at one
+-- what a map by identifiers, given as their content octets, holds at one
 abbrev pub held_at : {V : Type 0} → BTreeMap (List ℕ) V → List ℕ → Option V
 held_at m id = get (slice_cmp nat_cmp) m id
 
@@ -28,6 +28,7 @@ AreDistinct key xs = (id : List ℕ) → length (those_of key id xs) ≤ 1
 abbrev pub Repeats : {A : Type 0} → (A → List ℕ) → List A → Type 0
 Repeats key xs = (id : List ℕ) × (2 ≤ length (those_of key id xs))
 
--- why there is no map of them: an identifier repeats, which is told by the error `duplicate`; else memory ran out
+-- why there is no map of them: an identifier repeats, which is reported by the error `duplicate`;
+-- else memory ran out
 abbrev pub IsWhyNone : {A : Type 0} → X509Error → (A → List ℕ) → List A → X509Error → Type 0
 IsWhyNone duplicate key xs e = ((e ≡ duplicate) × Repeats key xs) ⊎ (e ≡ errors.OutOfMemory)

@@ -28,8 +28,8 @@ pub record IsOtherElement (n : ℕ) (octets : List ℕ) : Type 0 where
   pub begins : One (λ p q. q ≡ p) octets piece rest
   pub tag : piece.element.tag ≢ n
 
--- version [0] EXPLICIT Version DEFAULT v1 (RFC 5280, 4.1): absent where no octet is left, or a whole element of another tag
--- number is next, which is left there
+-- version [0] EXPLICIT Version DEFAULT v1 (RFC 5280, 4.1): absent if no octet is left, or a whole
+-- element of another tag number is next, which is left there
 pub data Version (octets : List ℕ) (version : ℕ) (rest : List ℕ) : Type 0 where
   version_at_end : octets ≡ [] → version ≡ 0 → rest ≡ octets → Version octets version rest
   version_absent : IsOtherElement 0 octets → version ≡ 0 → rest ≡ octets → Version octets version rest
@@ -54,8 +54,8 @@ pub record IsOtherHeader (n : ℕ) (octets : List ℕ) : Type 0 where
   pub header : Header octets head after
   pub tag : head.tag ≢ n
 
--- [n] IMPLICIT UniqueIdentifier OPTIONAL, UniqueIdentifier ::= BIT STRING (RFC 5280, 4.1.2.8): absent where no octet is left,
--- or a header of another tag number is next, which is left there
+-- [n] IMPLICIT UniqueIdentifier OPTIONAL, UniqueIdentifier ::= BIT STRING (RFC 5280, 4.1.2.8):
+-- absent if no octet is left, or a header of another tag number is next, which is left there
 pub data UniqueIdentifier (n : ℕ) (octets : List ℕ) (id : Option Bits) (rest : List ℕ) : Type 0 where
   id_at_end : octets ≡ [] → id ≡ None → rest ≡ octets → UniqueIdentifier n octets id rest
   id_absent : IsOtherHeader n octets → id ≡ None → rest ≡ octets → UniqueIdentifier n octets id rest

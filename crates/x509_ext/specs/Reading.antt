@@ -1,5 +1,5 @@
--- The readers of this crate as functions on octets, with the refusals that are promised, in their order. What they read stands
--- in `Extensions` and `Parts`; laws tie each function to it.
+-- The readers of this crate as functions on octets, with the refusals that are promised, in their
+-- order. What they read is defined in `Extensions` and `Parts`; laws tie each function to it.
 use Rattle.std.specs.Prelude.{ℕ, ◌==◌, ◌||◌, not, Bool, false, if◌then◌else◌, List, [], ◌∷◌, Option, Some, None, Ok, Err}
 use Rattle.asn1_core.specs.Elements.{Element}
 use Rattle.asn1_core.specs.Strict.{Head}
@@ -66,11 +66,11 @@ extension_list_at parse i = do
   v ← next (λ p. extension_list_in parse p.element) i
   to_end v
 
--- behind the wrapper's header, whose length isn't used
+-- after the wrapper's header, whose length isn't used
 abbrev pub wrapped_at : ValueReading → ℕ → Head × List ℕ → Answer (List Extension)
 wrapped_at parse n h = if h.0.tag == n then extension_list_at parse h.1 else Err (named errors.InvalidExtensions)
 
--- extensions under this tag number, to the end; none where no octet is left
+-- extensions under this tag number, to the end; none if no octet is left
 abbrev pub extensions_at : ValueReading → ℕ → List ℕ → Answer (List Extension)
 extensions_at parse n [] = Ok []
 extensions_at parse n (x ∷ s) = naming errors.InvalidExtensions (front_header_at (x ∷ s)) >>= wrapped_at parse n
@@ -87,7 +87,7 @@ version_at i = naming errors.InvalidVersion (next (λ p. plain (version_in p.ele
 unfoldable pub tagged_version_in : Element → Answer ℕ
 tagged_version_in e = if e.class == 2 then (next (λ p. plain (version_in p.element)) e.content >>= λ v. Ok v.0) else Err unnamed
 
--- a certificate's version: 0 where no octet is left, or the element has another tag number
+-- a certificate's version: 0 if no octet is left, or the element has another tag number
 abbrev pub version_behind : List ℕ → Piece × List ℕ → Answer (ℕ × List ℕ)
 version_behind i p = if p.0.element.tag == 0 then (tagged_version_in p.0.element >>= λ v. Ok (v, p.1)) else Ok (0, i)
 
@@ -103,7 +103,8 @@ serial_at = next (λ p. content_in 2 p.element)
 abbrev pub implicit_bits_in : Element → Answer Bits
 implicit_bits_in e = if not (e.class == 2) || e.constructed then Err unnamed else bits_of e.content
 
--- a unique identifier of this tag number, or none: where no octet is left, or the header has another tag number
+-- a unique identifier of this tag number, or none: if no octet is left, or the header has another
+-- tag number
 abbrev pub id_behind : ℕ → List ℕ → Head × List ℕ → Answer (Option Bits × List ℕ)
 id_behind n i h = if h.0.tag == n then (next (λ p. implicit_bits_in p.element) i >>= λ v. Ok (Some v.0, v.1)) else Ok (None, i)
 

@@ -13,11 +13,11 @@ use Rattle.x509_ext.specs.declared.unique.UniqueIdentifier.{UniqueIdentifier}
 abbrev pub extension_view : X509Extension → Extension
 extension_view e = record { identifier = e.oid; critical = e.critical; value = e.value.now; parsed = parsed_view e.parsed_extension }
 
--- why its value is none of its type, where it isn't: a view of the value leaves that out
+-- why its value is none of its type, if it isn't: a view of the value leaves that out
 abbrev pub extension_error : X509Extension → Option (Refusal Error)
 extension_error e = error_of e.parsed_extension
 
--- where its value is none of its type, why isn't want of memory
+-- if its value is none of its type, the error isn't `OutOfMemory`
 abbrev pub WantsNoMemory : X509Extension → Type 0
 WantsNoMemory e = HoldsNoMemory e.parsed_extension
 

@@ -95,7 +95,7 @@ some_limit : (ca : Bool) (o : Option ℕ) (c : values.BasicConstraints) → opti
 some_limit ca None c given = cc
 some_limit ca (Some n) c given = let same : with_limit ca n ≡ c = cc in (n, refl, sym same)
 
--- what stands behind a flag: nothing, or a limit
+-- what comes after a flag: nothing, or a limit
 behind_case : (ca : Bool) (i : List ℕ) (c : values.BasicConstraints) → behind_flag ca i ≡ Some c → ((i ≡ []) × (c ≡ without_limit ca)) ⊎ ((n : ℕ) × IsLimit i n × (c ≡ with_limit ca n))
 unfolding behind_flag
 behind_case ca [] c given = let same : without_limit ca ≡ c = cc in inl (refl, sym same)

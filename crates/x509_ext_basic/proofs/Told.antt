@@ -1,4 +1,4 @@
--- Which errors are told of octets that begin with a part, but with no value.
+-- Which errors are returned for octets that begin with a part, but with no value.
 use Rattle.std.proofs.Common.{◌≡◌, ◌∙◌, refl, sym, ap, subst, ℕ, List, [], ◌∷◌, Result, Ok, Err, IfErr, Bor}
 use Rattle.std.specs.Int.Digits.{AllBelowBase}
 use Rattle.asn1_core.specs.declared.error.Error.{Error}

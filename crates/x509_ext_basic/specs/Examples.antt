@@ -2,7 +2,7 @@
 use Rattle.std.specs.Prelude.{ℕ, List, [], ◌∷◌, true, false, Some, None}
 use Rattle.x509_ext_basic.specs.Values.{BasicConstraints}
 
--- cA is true, and no certificate may stand between
+-- cA is true, and no certificate may be between
 abbrev pub constraints_octets : List ℕ
 constraints_octets = 0x30 ∷ 0x06 ∷ 0x01 ∷ 0x01 ∷ 0xff ∷ 0x02 ∷ 0x01 ∷ 0x00 ∷ []
 

@@ -49,7 +49,8 @@ pub record IsIa5 (content text : List ℕ) : Type 0 where
   pub same : text ≡ content
   pub below_80 : IsTextOf is_below_80 content
 
--- Netscape's comment ::= IA5String; where none begins the octets, all of them are the comment, if they are UTF-8
+-- Netscape's comment ::= IA5String; if none begins the octets, all of them are the comment, if they
+-- are UTF-8
 pub data NetscapeComment (octets comment rest : List ℕ) : Type 0 where
   ia5_string : One (Leaf 22 IsIa5) octets comment rest → NetscapeComment octets comment rest
   bare : NoneBegins (One (Leaf 22 IsIa5)) octets → IsUtf8 octets → comment ≡ octets → rest ≡ [] → NetscapeComment octets comment rest
@@ -67,7 +68,7 @@ abbrev pub flag_octets : Bool → List ℕ
 flag_octets ca = 0x01 ∷ 0x01 ∷ (if ca then 0xff else 0x00) ∷ []
 
 -- pathLenConstraint INTEGER of DER (X.690, 8.3), below 2^32, with its header: so its content has at most five octets, and its
--- length stands in one. An ENUMERATED (X.690, 8.4) counts as well.
+-- length is one octet. An ENUMERATED (X.690, 8.4) counts as well.
 pub record IsLimit (octets : List ℕ) (n : ℕ) : Type 0 where
   pub tag : ℕ
   pub content : List ℕ

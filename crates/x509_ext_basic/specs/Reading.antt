@@ -1,4 +1,5 @@
--- The readers of this crate as functions on octets. What they read stands in `Leaves`; laws tie each function to it.
+-- The readers of this crate as functions on octets. What they read is defined in `Leaves`; laws tie
+-- each function to it.
 use Rattle.std.specs.Prelude.{ℕ, ℤ, pos, int_le, ◌==◌, ◌&&◌, ◌||◌, not, nat_lt, nat_le, Bool, true, false, if◌then◌else◌, List, [], ◌∷◌, length, Option, Some, None, option_map, option_and_then, Ok, Err}
 use Rattle.std.specs.Int.Digits.{number_from_digits}
 use Rattle.std.specs.List.{list_all}
@@ -118,12 +119,12 @@ with_limit ca n = record { ca = ca; path_len_constraint = Some n }
 abbrev pub without_limit : Bool → values.BasicConstraints
 without_limit ca = record { ca = ca; path_len_constraint = None }
 
--- behind the flag
+-- after the flag
 unfoldable pub behind_flag : Bool → List ℕ → Option values.BasicConstraints
 behind_flag ca [] = Some (without_limit ca)
 behind_flag ca (x ∷ s) = option_map (with_limit ca) (limit_in (x ∷ s))
 
--- behind the flag, where one is there, else from the front on
+-- after the flag, if one is there, else from the front on
 abbrev pub parts_by : List ℕ → Option (Bool × List ℕ) → Option values.BasicConstraints
 parts_by i (Some f) = behind_flag f.0 f.1
 parts_by i None = behind_flag false i

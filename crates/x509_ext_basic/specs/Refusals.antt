@@ -1,4 +1,4 @@
--- Which errors readers tell.
+-- Which errors readers return.
 use Rattle.std.specs.Prelude.{◌≡◌, ℕ, List, [], ◌∷◌, Ok, Err}
 use Rattle.asn1_core.specs.Elements.{Element}
 use Rattle.asn1_core.specs.declared.error.Error.{Error}
@@ -10,7 +10,7 @@ use Rattle.x509_core.specs.declared.error.X509Error.{X509Error}
 use Rattle.x509_core.specs.declared.error.X509Error.TheVariants as errors
 use Rattle.x509_ext_basic.specs.Reading.{any_at}
 
--- where the part is there, by an error that it tells
+-- if the part is there, by an error that it returns
 abbrev pub ToldAs : {A : Type 0} → (A → Error) → Answer A → Refusal X509Error → Type 0
 ToldAs error (Ok part) e = e ≡ refusals.Error (errors.Der (error part))
 ToldAs error (Err why) e = Unit {0}

@@ -114,7 +114,7 @@ fn parts_of(i: &[u8]) -> Option<BasicConstraints>
     }
 }
 
-// Why a content is refused: by its tag where it is one element, else by its length.
+// Why a content is refused: by its tag if it is one element, else by its length.
 fn fault_of(content: &[u8]) -> Error
     ensures value { result ≡ fault_in content.now }
     ensures memory { result ≢ der.OutOfMemory }

@@ -5,7 +5,7 @@ use Rattle.std.specs.List.{flat_map}
 use Rattle.x509_ext_flags.specs.Flags.{bit_of}
 use Rattle.x509_ext_flags.specs.Texts.{names_set, joined_names, name_piece}
 
--- what is left to write: each name behind a comma, but the first
+-- what is left to write: each name after a comma, but the first
 abbrev pub left_names : Bool → List (List ℕ) → List ℕ
 left_names true names = flat_map (λ name. codes ", " ++ name) names
 left_names false names = joined_names names
@@ -32,7 +32,7 @@ next_clear name flags width at less other =
     let next : suc at ≡ at + 1 = omega arith in
     rw (n, other, next) refl
 
--- a flag, and those behind it
+-- a flag, and those after it
 pub next_flag : (name : ℕ → List ℕ) (flags width at : ℕ) (begun set : Bool) → at < width → set ≡ bit_of flags at
     → left_names begun (names_set name flags (width - at) at) ≡ name_piece set begun (name at) ++ left_names (begun || set) (names_set name flags (width - (at + 1)) (at + 1))
 next_flag name flags width at begun true less is =

@@ -1,5 +1,6 @@
 -- Extension values that are a flag, a number or octets, as they are read leniently (RFC 5280, 4.2). A leaf is primitive; its tag
--- number is compared, its class isn't. `Maybe P` leaves the octets where P doesn't begin them, for whatever reason.
+-- number is compared, its class isn't. `Maybe P` leaves the octets if P doesn't begin them, for
+-- whatever reason.
 use Rattle.std.specs.Prelude.{◌≡◌, ℕ, List, []}
 use Rattle.x509_core.specs.Grammar.{Grammar, One, Box, Maybe}
 use Rattle.x509_core.specs.Leaves.{Leaf, IsOctets}

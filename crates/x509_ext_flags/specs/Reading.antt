@@ -1,5 +1,5 @@
--- The readers of this crate as functions on octets, with the refusals that are promised, in their order. What they read stands
--- in `Extensions`; laws tie each function to it.
+-- The readers of this crate as functions on octets, with the refusals that are promised, in their
+-- order. What they read is defined in `Extensions`; laws tie each function to it.
 use Rattle.std.specs.Prelude.{ℕ, zero, suc, ◌+◌, ◌*◌, ◌==◌, Bool, if◌then◌else◌, List, [], ◌∷◌, length, Option, None, Ok, Err}
 use Rattle.std.specs.Result.{result_ok}
 use Rattle.asn1_core.specs.Elements.{Element}
@@ -64,7 +64,7 @@ key_identifier_at = next key_identifier_in
 unfoldable pub number_in : List ℕ → Option ℕ
 number_in content = if is_shortest content then result_ok (unsigned_at 32 content) else None
 
--- the same under this tag number
+-- an INTEGER of 32 bits without a sign under this tag number
 abbrev pub element_number : ℕ → Element → Answer ℕ
 element_number tag e = leaf_in tag e >>= λ content. plain (number_in content)
 

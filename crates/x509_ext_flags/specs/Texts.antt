@@ -32,7 +32,7 @@ joined_names names = join_by (λ name. name) (codes ", ") names
 abbrev pub flags_text : (ℕ → List ℕ) → ℕ → ℕ → List ℕ
 flags_text name width flags = joined_names (names_set name flags width 0)
 
--- what is written of a flag: nothing, or its name, behind a comma where something was written before
+-- what is written of a flag: nothing, or its name, after a comma if something was written before
 abbrev pub name_piece : Bool → Bool → List ℕ → List ℕ
 name_piece set begun name = if set then (if begun then codes ", " ++ name else name) else []
 

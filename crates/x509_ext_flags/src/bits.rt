@@ -21,7 +21,7 @@ pub fn flag_at(flags: u16, index: u32) -> bool
     (flags >> index) % 2 == 1
 }
 
-// Bit `index` of the octets, the highest of the first being bit 0; false behind the last octet.
+// Bit `index` of the octets, the highest of the first being bit 0; false after the last octet.
 fn octet_bit(octets: &[u8], index: u32) -> bool
     requires { index < 16 }
     ensures { result ≡ bit_at octets.now index }

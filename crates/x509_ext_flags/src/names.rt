@@ -82,7 +82,7 @@ impl FlagNames for NSCertType {
     }
 }
 
-// The name of a flag that is set, behind a comma where something was written before.
+// The name of a flag that is set, after a comma if something was written before.
 fn write_name<W: fmt::Write>(
     set: bool,
     begun: bool,

@@ -1,6 +1,6 @@
 -- Extension values that hold general names, as they are read leniently (RFC 5280, 4.2). `Box n P` looks at the tag number alone; what
--- is left of its content is ignored, but where `ToEnd` or `Ended` stands. `Maybe P` leaves the octets where P doesn't begin them, for
--- whatever reason.
+-- is left of its content is ignored, except at `ToEnd` or `Ended`. `Maybe P` leaves the octets if P
+-- doesn't begin them, for whatever reason.
 use Rattle.std.specs.Prelude.{◌≡◌, ℕ, List}
 use Rattle.asn1_any.specs.Cutting.{Piece}
 use Rattle.x509_core.specs.Grammar.{Grammar, One, Box, AsMany, ToEnd, Maybe}
@@ -35,7 +35,7 @@ abbrev pub AlternativeName : Grammar (List values.GeneralName)
 AlternativeName = Box 16 (ToEnd GeneralName)
 
 -- GeneralSubtree ::= SEQUENCE { base GeneralName, minimum [0] BaseDistance DEFAULT 0, maximum [1] BaseDistance OPTIONAL }
--- (RFC 5280, 4.2.1.10); what stands behind the base is ignored
+-- (RFC 5280, 4.2.1.10); what comes after the base is ignored
 abbrev pub GeneralSubtree : Grammar values.GeneralName
 GeneralSubtree = Box 16 GeneralName
 

@@ -1,4 +1,4 @@
--- The text of a general name, as `DNSName(host)`. Texts stand as their octets.
+-- The text of a general name, as `DNSName(host)`. Texts are given as their octets.
 use Rattle.std.specs.Prelude.{ℕ, List, ◌++◌, codes, decimal}
 use Rattle.asn1_oid.specs.Text.{oid_text}
 use Rattle.x509_ext_names.specs.Values.{GeneralName, other_name, rfc822_name, dns_name, x400_address, directory_name, edi_party_name, uri, ip_address, registered_id, invalid}

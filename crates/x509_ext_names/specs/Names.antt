@@ -36,7 +36,7 @@ pub data IsEntry (e : Element) (n : values.GeneralName) : Type 0 where
 abbrev pub IsNoEntry : Element → Type 0
 IsNoEntry e = (n : values.GeneralName) → IsEntry e n → ⊥
 
--- an element of the context class; where it is no entry, its tag number and its content are kept
+-- an element of the context class; if it is no entry, its tag number and its content are kept
 pub record IsGeneralName (p : Piece) (n : values.GeneralName) : Type 0 where
   pub class : p.element.class ≡ 2
   pub entry : IsEntry p.element n ⊎ (IsNoEntry p.element × (n ≡ values.invalid p.element.tag p.element.content))

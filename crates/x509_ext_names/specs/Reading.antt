@@ -1,5 +1,5 @@
--- The readers of this crate as functions on octets. What they read stands in `Names` and `Extensions`; laws tie each function to
--- it. None of their refusals is promised by its error.
+-- The readers of this crate as functions on octets. What they read is defined in `Names` and
+-- `Extensions`; laws tie each function to it. None of their refusals is promised by its error.
 use Rattle.std.specs.Prelude.{ℕ, ◌==◌, if◌then◌else◌, List, Ok, Err}
 use Rattle.asn1_core.specs.Elements.{Element}
 use Rattle.asn1_any.specs.Cutting.{Piece}

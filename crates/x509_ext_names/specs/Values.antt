@@ -1,4 +1,5 @@
--- What the values of this crate's types stand for. Texts stand as their octets, object identifiers as their content octets.
+-- What the values of this crate's types stand for. Texts are given as their octets, object
+-- identifiers as their content octets.
 use Rattle.std.specs.Prelude.{ℕ, List, Option}
 use Rattle.asn1_core.specs.Elements.{Element}
 use Rattle.x509_names.specs.Fields.{Name}

@@ -85,7 +85,7 @@ impl<'a> NameConstraints<'a> {
     }
 }
 
-// A subtree at the front; what stands behind its base is ignored.
+// A subtree at the front; what comes after its base is ignored.
 fn subtree_at_front<'a>(alloc: Global, i: &'a [u8]) -> X509Result<'a, GeneralSubtree<'a>>
     ensures exact { Gives (λ r. (subtree_view r.1, r.0.now)) result (subtree_at i.now) }
     ensures shorter { IfOk result (λ r. length r.0.now < length i.now) }

@@ -1,4 +1,4 @@
--- Why a value is none of its type, from what its reader answers.
+-- Why a value is none of its type, from what its reader returns.
 use Rattle.std.proofs.Common.{◌≡◌, ◌∙◌, refl, sym, subst, ℕ, List, Result, Ok, Err, Bor, Option, Some, None, IfSome}
 use Rattle.asn1_core.specs.declared.error.Error.{Error}
 use Rattle.asn1_core.specs.declared.error.Error.TheVariants as der

@@ -23,15 +23,15 @@ abbrev pub error_of : ParsedExtension → Option (Refusal Error)
 error_of (cases.ParseError e) = Some e
 error_of p = None
 
--- an error that it holds isn't want of memory
+-- an error that it holds isn't `OutOfMemory`
 abbrev pub HoldsNoMemory : ParsedExtension → Type 0
 HoldsNoMemory p = IfSome (error_of p) TakesNoMemory
 
--- where a value of a kind is none of its type, the error that is held is why
+-- if a value of a kind is none of its type, the error that is held is why
 abbrev pub HoldsFaultOf : Kind → List ℕ → ParsedExtension → Type 0
 HoldsFaultOf kind value p = IfSome (error_of p) (FaultOf kind value)
 
--- where the value under this identifier is none of its type, the error that is held is why
+-- if the value under this identifier is none of its type, the error that is held is why
 abbrev pub HoldsFault : List ℕ → List ℕ → ParsedExtension → Type 0
 HoldsFault identifier value p = IfSome (error_of p) (IsFaultOf identifier value)
 
@@ -47,7 +47,7 @@ IsHeld (refusals.Incomplete n) e = e ≡ refusals.Incomplete n
 IsHeld (refusals.Error x) e = e ≡ refusals.Error (element_error x)
 IsHeld (refusals.Failure x) e = ⊥
 
--- a reader's answer, the octets behind a value dropped, and want of memory by itself
+-- a reader's result, the octets after a value dropped, and lack of memory by itself
 abbrev pub IsSettled : {X : Type 0} → Result (Bor (List ℕ) × X) (Refusal X509Error) → Result (Result X (Refusal Error)) OutOfMemory → Type 0
 IsSettled (Ok r) (Ok (Ok value)) = r.1 ≡ value
 IsSettled (Ok r) (Ok (Err e)) = ⊥

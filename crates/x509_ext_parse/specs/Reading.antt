@@ -1,4 +1,5 @@
--- Values of extensions, parsed by a function on octets. What they are parsed as stands in `Parsed`; laws tie the function to it.
+-- Values of extensions, parsed by a function on octets. What they are parsed as is defined in
+-- `Parsed`; laws tie the function to it.
 use Rattle.std.specs.Prelude.{ℕ, if◌then◌else◌, List, [], ◌∷◌, Option, Some, None, Ok, Err, bytes_eq}
 use Rattle.x509_core.specs.Answers.{Answer}
 use Rattle.x509_ext_parse.specs.Values as values

@@ -1,5 +1,5 @@
--- What the values of extensions hold, without where it lies in memory. Texts stand as their octets, object identifiers as
--- their content octets, flags as numbers.
+-- What the values of extensions hold, without where it lies in memory. Texts are given as their
+-- octets, object identifiers as their content octets, flags as numbers.
 use Rattle.std.specs.Prelude.{ℕ, List}
 use Rattle.x509_time.specs.Times.{Time}
 pub use Rattle.x509_ext_flags.specs.Values.{PolicyConstraints}

@@ -1,6 +1,6 @@
 -- Distribution points, as they are read leniently (RFC 5280, 4.2.1.13 and 5.2.5). `Box n P` looks at the tag number alone, and what
--- is left of its content is ignored, but where `ToEnd` stands. `Maybe P` leaves the octets where P doesn't begin them, for whatever
--- reason.
+-- is left of its content is ignored, except at `ToEnd`. `Maybe P` leaves the octets if P doesn't
+-- begin them, for whatever reason.
 use Rattle.std.specs.Prelude.{◌≡◌, ℕ, Bool, List, Option}
 use Rattle.asn1_core.specs.Strict.{Head}
 use Rattle.asn1_traits.specs.Booleans.{BooleanMeans, IsStrictBoolean}
@@ -14,14 +14,15 @@ use Rattle.x509_ext_names.specs.Names.{GeneralNames}
 use Rattle.x509_ext_names.specs.Values.{GeneralName}
 use Rattle.x509_ext_points.specs.Values as values
 
--- a header of this tag number begins the octets, whatever its class and whatever it counts; `after` are the octets behind it
+-- a header of this tag number begins the octets, whatever its class and whatever it counts; `after`
+-- are the octets after it
 pub record BehindHeader (tag : ℕ) (octets after : List ℕ) : Type 0 where
   pub head : Head
   pub header : Header octets head after
   pub tag_is : head.tag ≡ tag
 
 -- DistributionPointName ::= CHOICE { fullName [0] GeneralNames, nameRelativeToCRLIssuer [1] RelativeDistinguishedName }
--- The header's length isn't used. Behind [1] stands a whole relative name, its header too.
+-- The header's length isn't used. After [1] comes a whole relative name, its header too.
 pub data PointName (octets : List ℕ) (n : values.PointName) (rest : List ℕ) : Type 0 where
   full_name :
       (after : List ℕ) (names : List GeneralName) → BehindHeader 0 octets after → GeneralNames after names rest

@@ -1,5 +1,5 @@
--- The readers of this crate as functions on octets. What they read stands in `Points`; laws tie each function to it. None of their
--- refusals is promised by its error.
+-- The readers of this crate as functions on octets. What they read is defined in `Points`; laws tie
+-- each function to it. None of their refusals is promised by its error.
 use Rattle.std.specs.Prelude.{ℕ, ◌==◌, Bool, true, false, if◌then◌else◌, List, [], ◌∷◌, Ok, Err}
 use Rattle.asn1_core.specs.Elements.{Element}
 use Rattle.asn1_core.specs.Strict.{Head}
@@ -23,7 +23,7 @@ relative_at i = do
   set ← relative_name_at i
   Ok (values.relative_name set.0, set.1)
 
--- behind the header of its kind, whose length isn't used
+-- after the header of its kind, whose length isn't used
 abbrev pub name_behind : Head × List ℕ → Answer (values.PointName × List ℕ)
 name_behind h = if h.0.tag == 0 then full_name_at h.1 else if h.0.tag == 1 then relative_at h.1 else Err unnamed
 

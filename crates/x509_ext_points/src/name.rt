@@ -46,7 +46,7 @@ impl<'a> DistributionPointName<'a> {
     }
 }
 
-// A copy of a name, where there is one.
+// A copy of a name, if there is one.
 pub(crate) fn copy_name<'a>(
     alloc: Global,
     name: &Option<DistributionPointName<'a>>,
@@ -84,7 +84,7 @@ fn relative_name<'a>(alloc: Global, i: &'a [u8]) -> X509Result<'a, DistributionP
     Ok((rest, DistributionPointName::NameRelativeToCRLIssuer(set)))
 }
 
-// A name behind the header of its kind, whose length isn't used.
+// A name after the header of its kind, whose length isn't used.
 #[tactic(auto, unfolding(crate::specs::Reading::point_name_at))]
 fn point_name<'a>(alloc: Global, i: &'a [u8]) -> X509Result<'a, DistributionPointName<'a>>
     ensures { Gives (λ r. (point_name_view r.1, r.0.now)) result (point_name_at i.now) }

@@ -1,4 +1,4 @@
--- Values that are added one by one stand by their identifiers.
+-- Values that are added one by one are found by their identifiers.
 use Rattle.std.proofs.Common.{◌≡◌, ◌∙◌, refl, sym, ap, ℕ, Bool, true, false, cond, List, [], ◌∷◌, ◌++◌, map, append_assoc, append-nil, Option, Some, None, option_map, if◌then◌else◌, bytes_eq, Vec, Global}
 use Rattle.std.specs.BTreeMap.{BTreeMap, get, is_at}
 use Rattle.std.specs.Cmp.Lexicographic.{slice_cmp}

@@ -6,7 +6,7 @@ use Rattle.std.specs.Global.{Global}
 use Rattle.std.specs.List.{filter}
 use Rattle.std.specs.Ordering.{nat_cmp}
 
--- none where there is none
+-- none if there is none
 abbrev pub some_values : {A : Type 0} → List A → Option (List A)
 some_values [] = None
 some_values (x ∷ xs) = Some (x ∷ xs)
@@ -15,11 +15,11 @@ abbrev pub values_or_none : {A : Type 0} → Option (List A) → List A
 values_or_none None = []
 values_or_none (Some xs) = xs
 
--- the values of an identifier, in the order in which they stand
+-- the values of an identifier, in the order in which they come
 abbrev pub values_of : {A B : Type 0} → (A → List ℕ) → (A → B) → List A → List ℕ → List B
 values_of key value xs id = map value (filter (λ x. bytes_eq (key x) id) xs)
 
--- what a map by identifiers, which stand as their content octets, holds at one
+-- what a map by identifiers, given as their content octets, holds at one
 abbrev pub held_at : {V : Type 0} → BTreeMap (List ℕ) (Vec V Global) → List ℕ → Option (List V)
 held_at m id = option_map (λ v. v.items) (get (slice_cmp nat_cmp) m id)
 

@@ -1,5 +1,5 @@
 -- Policies, as they are read leniently (RFC 5280, 4.2.1.4 and 4.2.1.5). `Box n P` looks at the tag number alone, `Sequence P` wants
--- a constructed universal element; what is left of the content is ignored, but where `ToEnd` stands.
+-- a constructed universal element; what is left of the content is ignored, except at `ToEnd`.
 use Rattle.std.specs.Prelude.{◌≡◌, ℕ, List, []}
 use Rattle.x509_core.specs.Grammar.{Grammar, One, Box, ToEnd, Maybe}
 use Rattle.x509_core.specs.Leaves.{IsOid}

@@ -1,4 +1,5 @@
--- Purposes of a key, as they are read leniently (RFC 5280, 4.2.1.12). An identifier stands as its content octets.
+-- Purposes of a key, as they are read leniently (RFC 5280, 4.2.1.12). An identifier is given as its
+-- content octets.
 use Rattle.std.specs.Prelude.{◌≡◌, ◌⊎◌, ℕ, Bool, true, false, List, [], ◌∷◌}
 use Rattle.asn1_traits.specs.Lists.{OneIs}
 use Rattle.x509_core.specs.Grammar.{Grammar, One, ToEnd}
@@ -18,16 +19,16 @@ id_kp n = 0x2b ∷ 0x06 ∷ 0x01 ∷ 0x05 ∷ 0x05 ∷ 0x07 ∷ 0x03 ∷ n ∷ [
 abbrev pub named_purposes : List (List ℕ)
 named_purposes = any_extended_key_usage ∷ id_kp 1 ∷ id_kp 2 ∷ id_kp 3 ∷ id_kp 4 ∷ id_kp 8 ∷ id_kp 9 ∷ []
 
--- the identifier stands among these
+-- the identifier is among these
 abbrev pub IsAmong : List ℕ → List (List ℕ) → Type 0
 IsAmong id ids = OneIs (λ other. other ≡ id) ids
 
--- the flag tells whether the purpose stands there
+-- the flag says whether the purpose is there
 abbrev pub Tells : List ℕ → List (List ℕ) → Bool → Type 0
 Tells purpose ids true = IsAmong purpose ids
 Tells purpose ids false = IsAmong purpose ids → ⊥
 
--- the identifiers that aren't among `before`, each where it stands first, in their order
+-- the identifiers that aren't among `before`, each at its first place, in their order
 unfoldable pub EachOnce : List (List ℕ) → List (List ℕ) → List (List ℕ) → Type 0
 EachOnce before [] others = others ≡ []
 EachOnce before (id ∷ ids) others =

@@ -1,5 +1,5 @@
--- The readers of this crate as functions on octets. What they read stands in `Policies`; laws tie each function to it. None of
--- their refusals is promised by its error.
+-- The readers of this crate as functions on octets. What they read is defined in `Policies`; laws
+-- tie each function to it. None of their refusals is promised by its error.
 use Rattle.std.specs.Prelude.{ℕ, ◌||◌, Bool, false, if◌then◌else◌, List, [], ◌∷◌, ◌++◌, Ok, bytes_eq}
 use Rattle.asn1_any.specs.Cutting.{Piece}
 use Rattle.x509_core.specs.Answers.{Answer, ◌>>=◌}
@@ -63,7 +63,7 @@ abbrev pub has : List ℕ → List (List ℕ) → Bool
 has id [] = false
 has id (x ∷ xs) = bytes_eq x id || has id xs
 
--- those without a flag, behind those that were kept before, each where it stands first
+-- those without a flag, after those that were kept before, each at its first place
 abbrev pub once_of : List (List ℕ) → List (List ℕ) → List (List ℕ)
 once_of kept [] = kept
 once_of kept (id ∷ ids) = if has id named_purposes || has id kept then once_of kept ids else once_of (kept ++ id ∷ []) ids

@@ -1,4 +1,5 @@
--- What the values of this crate's types stand for. Object identifiers stand as their content octets.
+-- What the values of this crate's types stand for. Object identifiers are given as their content
+-- octets.
 use Rattle.std.specs.Prelude.{ℕ, Bool, List, Option}
 
 -- PolicyQualifierInfo, PolicyInformation (RFC 5280, 4.2.1.4)

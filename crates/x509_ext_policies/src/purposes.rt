@@ -115,8 +115,8 @@ fn is_known<'n>(octets: &'n [u8], seen: &BTreeSet<&'n [u8]>) -> bool
     is_named(octets) || seen.contains(octets)
 }
 
-// Those that have no flag of their own, each where it stands first. With n of them of s octets in all, about s times the logarithm
-// of n octets are compared.
+// Those that have no flag of their own, each at its first place. With n of them of s octets in all,
+// about s times the logarithm of n octets are compared.
 fn others_of<'a>(alloc: Global, ids: &[Oid<'a>]) -> Result<Vec<Oid<'a>>, OutOfMemory>
     ensures { IfOk result (λ v. v.items ≡ once_of [] ids.now) }
 {

@@ -1,5 +1,5 @@
--- The readers of this crate as functions on octets. What they read stands in `Timestamps`; laws tie each function to it. None of
--- their refusals is promised by its error.
+-- The readers of this crate as functions on octets. What they read is defined in `Timestamps`; laws
+-- tie each function to it. None of their refusals is promised by its error.
 use Rattle.std.specs.Prelude.{ℕ, ◌+◌, ◌*◌, ◌^◌, nat_lt, if◌then◌else◌, List, [], ◌∷◌, length, take, drop, Ok, Err}
 use Rattle.std.specs.Int.Digits.{number_from_digits}
 use Rattle.asn1_core.specs.Elements.{Element}

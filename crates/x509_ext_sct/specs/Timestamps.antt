@@ -51,7 +51,7 @@ pub record Timestamp (octets : List ℕ) (t : values.SignedCertificateTimestamp)
   pub parts : TimestampParts inner t left
 
 -- struct { SerializedSCT sct_list <1..2^16-1>; } SignedCertificateTimestampList (RFC 6962, 3.3); as many as begin, one at least;
--- what is left behind them, and behind the list, is ignored
+-- what is left after them, and after the list, is ignored
 pub record AreTimestamps (content : List ℕ) (ts : List values.SignedCertificateTimestamp) : Type 0 where
   pub inner : List ℕ
   pub behind : List ℕ

@@ -33,7 +33,7 @@ fn each_timestamp<'a>(
     Ok(timestamps)
 }
 
-// The same, one at least.
+// As many timestamps as begin there, one at least.
 fn some_timestamps<'a>(
     alloc: Global,
     i: &'a [u8],

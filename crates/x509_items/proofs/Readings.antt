@@ -34,7 +34,7 @@ held_meaning n P p reading = record {
       rw (content_only n q.element is.1.tag, read) refl;
 }
 
--- the octets behind as many values are octets
+-- the octets after as many values are octets
 pub many_below : {A : Type 0} (M : Piece → A → Type 0) (vs : List A) (i r : List ℕ) → AllBelowBase 256 i → AsMany (One M) i vs r → AllBelowBase 256 r
 unfolding AsMany
 many_below M [] i r below is = subst (AllBelowBase 256) is.0 below
@@ -163,7 +163,7 @@ ended_reading {A = A} P p reading = record {
   only = λ i v r below is. rw (reading.only i v [] below is.0, is.1) refl;
 }
 
--- the same of one or more, where as many are read
+-- one or more are read if as many are read
 pub more_reading : {A : Type 0} (P : Grammar A) (p : Reader A) → IsReading (AsMany P) (λ i. Ok (many_of p i)) → IsReading (OneOrMore P) (some_of p)
 more_reading P p many = record {
   found = λ i vs r below given.

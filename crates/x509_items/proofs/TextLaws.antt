@@ -1,4 +1,4 @@
--- The text of a content is read where it is UTF-8, and nowhere else.
+-- The text of a content is read exactly if it is UTF-8.
 use Rattle.std.proofs.Common.{◌≡◌, refl, ℕ, List, Bool, true, false, Ok, Err, inl, inr, if◌then◌else◌}
 use Rattle.std.specs.Str.{IsUtf8, is_utf8}
 use Rattle.std.proofs.lemmas.Str.{IsUtf8-from_is_utf8, is_utf8-from_IsUtf8}

@@ -34,7 +34,7 @@ abbrev pub to_end : {A : Type 0} → A × List ℕ → Answer A
 to_end (v, []) = Ok v
 to_end (v, x ∷ s) = Err unnamed
 
--- the same as a reader: nothing comes after it
+-- what reads to the end, as a reader: nothing comes after it
 abbrev pub ended : {A : Type 0} → (List ℕ → Answer A) → Reader A
 ended p i = do
   v ← p i

@@ -71,7 +71,7 @@ pub fn write_octets<W: fmt::Write>(octets: &[u8], f: &mut fmt::Formatter<W>) -> 
     Ok(())
 }
 
-// The colon, where something was written before.
+// The colon, if something was written before.
 fn separate<W: fmt::Write>(begun: bool, f: &mut fmt::Formatter<W>) -> fmt::Result
     ensures { DisplaysOnOk W.write_str_gives f.old result (Some (separator_text begun 0x3A)) f.new }
 {

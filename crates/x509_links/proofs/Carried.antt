@@ -10,7 +10,7 @@ use Rattle.x509_core.proofs.Grammars.{content_below, front_below}
 abbrev pub Carries : {A B : Type 0} (M : Piece → A → Type 0) (N : Piece → B → Type 0) (f : A → B) → Type 0
 Carries {A} M N f = (q : Piece) (v : A) → IsPiece q → AllBelowBase 256 q.octets → M q v → N q (f v)
 
--- what is left behind an element
+-- what is left after an element
 pub after_one : {A : Type 0} (M : Piece → A → Type 0) (i : List ℕ) (v : A) (r : List ℕ) → AllBelowBase 256 i → One M i v r → AllBelowBase 256 r
 after_one M i v r below is = let whole = is.whole in append_below 256 is.piece.octets r (subst (AllBelowBase 256) whole below)
 
@@ -22,7 +22,7 @@ one_carried M N f carry i v r below is = record {
   means = carry is.piece v is.spells (front_below i is.piece.octets r is.whole below) is.means;
 }
 
--- whatever is behind the element
+-- whatever comes after the element
 pub one_before : {A : Type 0} (M : Piece → A → Type 0) (i : List ℕ) (v : A) (rest : List ℕ) → One M i v [] → One M (i ++ rest) v rest
 one_before M i v rest is = record {
   piece = is.piece;
@@ -34,7 +34,7 @@ one_before M i v rest is = record {
 pub none_carried : {A B : Type 0} (M : Piece → A → Type 0) (N : Piece → B → Type 0) (g : B → A) → Carries N M g → (i : List ℕ) → AllBelowBase 256 i → NoneBegins (One M) i → NoneBegins (One N) i
 none_carried M N g back i below none = λ v r is. none (g v) r (one_carried N M g back i v r below is)
 
--- where both meanings are carried to each other
+-- if both meanings are carried to each other
 pub many_carried : {A B : Type 0} (M : Piece → A → Type 0) (N : Piece → B → Type 0) (f : A → B) (g : B → A) → Carries M N f → Carries N M g
     → (vs : List A) (i r : List ℕ) → AllBelowBase 256 i → AsMany (One M) i vs r → AsMany (One N) i (map f vs) r
 unfolding AsMany

@@ -92,7 +92,7 @@ attribute_is a rest range small =
       },
     )
 
--- strict parts one behind the other, to the end
+-- strict parts one after another, to the end
 pub each_is : {X A : Type 0} (M : Piece → A → Type 0) (write : X → List ℕ) (view : X → A) (Is : X → Type 0) → ((x : X) (rest : List ℕ) → Is x → length (write x) < 2 ^ 64 → One M (write x ++ rest) (view x) rest) →
     (xs : List X) → AllByRecursion Is xs → length (flat_map write xs) < 2 ^ 64 → AsMany (One M) (flat_map write xs) (map view xs) []
 unfolding AsMany

@@ -72,7 +72,7 @@ no_entries (e ∷ es) small =
     let whole : Element = record { class = 2; constructed = true; tag = 0; content = extensions_octets (e ∷ es) } in
     none_strict (Holds 16 (ToEnd (RevokedCertificate IsUnparsed))) whole [] (element_in whole (lit< tt) (lit< tt) small) (λ v is. let tag : 0 ≡ 16 = is.1.tag in omega (arith, tag))
 
--- entries or none, as the reader tells them
+-- entries or none, as the reader returns them
 pub record AreEntries (octets : List ℕ) (es : List Entry) (rest : List ℕ) : Type 0 where
   pub written : Option (List ReadEntry)
   pub there_or_none : Maybe (RevokedCertificates IsUnparsed) octets written rest

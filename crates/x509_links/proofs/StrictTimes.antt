@@ -198,7 +198,7 @@ clock_in t range =
 dated : (t : CivilTime) → IsTimeField t → DateTime
 dated t range = record { date = date_in t range; time = clock_in t range }
 
--- the same parts are the same time
+-- equal parts are equal times
 abbrev of_parts : ℤ → ℕ → ℕ → ℕ → ℕ → ℕ → ℕ → CivilTime
 of_parts year month day hour minute second nanosecond =
     record { year = year; month = month; day = day; hour = hour; minute = minute; second = second; nanosecond = nanosecond }

@@ -72,7 +72,7 @@ extensions_carried Means Other parse other ways n i es r below (there is end) =
           is.after_header es [] inner is.list;
     }) end
 
--- ---- what is left behind a part
+-- ---- what is left after a part
 
 after_version : (i : List ℕ) (v : ℕ) (r : List ℕ) → AllBelowBase 256 i → Version i v r → AllBelowBase 256 r
 after_version i v r below (version_at_end none zero same) = subst (AllBelowBase 256) (sym same) below

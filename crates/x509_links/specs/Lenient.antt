@@ -1,5 +1,5 @@
--- The fields of strict certificates and lists as the lenient readers give them: the same, and windows, each of which is the
--- whole element.
+-- The fields of strict certificates and lists as the lenient readers give them: equal fields, and
+-- windows, each of which is the whole element.
 use Rattle.std.specs.Prelude.{◌+◌, ◌*◌, nat_lt, not, unsigned_abs, ℤ, pos, ◌+ℤ◌, ◌*ℤ◌, List, map, option_map}
 use Rattle.jiff_core.specs.Calendar.{days_from_civil}
 use Rattle.cert_model.specs.Fields.{Algorithm, Attribute, RelativeName, Name, Bits, Key, Extension, CivilTime, Certificate, Entry, RevocationList}

@@ -117,7 +117,7 @@ entries_meaning Means parse law = record {
       rw (content_only 16 q.element is.1.tag, all) refl;
 }
 
--- ---- entries, where some are
+-- ---- entries, if some are
 
 abbrev some_at : ValueReading → Reader (List Entry)
 some_at parse = next (λ p. entries_in parse p.element)

@@ -278,7 +278,8 @@ one_missing i none = rw none refl
 pub none_there : (parse : ValueReading) (i : List ℕ) → i ≡ [] → list_at parse i ≡ Err unnamed
 none_there parse i none = ap (λ z. z >>= λ e. (list_in parse e.0 >>= λ v. Ok (v, e.1))) (empty_read i none)
 
--- no entries are hidden: where they count as absent, nothing is left, or the wrapper of extensions stands in their place
+-- no entries are hidden: if they count as absent, nothing is left, or the wrapper of extensions is
+-- in their place
 pub nothing_hidden : (Means : ValueMeaning) (before after : List ℕ) (written : Option (List Entry)) (xs : List Extension) (rest : List ℕ) → Maybe (RevokedCertificates Means) before written after → written ≡ None → Extensions Means 0 after xs rest
     → (before ≡ []) ⊎ BeginsWithWrapper before
 nothing_hidden Means before after None xs rest is none (absent e f g) = inl (is.0 ∙ e)

@@ -9,7 +9,7 @@ use Rattle.x509_ext.specs.Fields.{ValueReading}
 use Rattle.x509_lists.specs.Reading.{version_at, entries_at, tbs_in}
 use Rattle.x509_lists.specs.Steps.{signer_at, dates_at, revoked_at, signed_at}
 
--- what is done with each value is the same
+-- equal functions do one thing with each value
 then_same : {A B : Type 0} (a : Answer A) (f g : A → Answer B) → ((x : A) → f x ≡ g x) → a >>= f ≡ a >>= g
 then_same (Ok x) f g same = same x
 then_same (Err e) f g same = refl

@@ -10,7 +10,7 @@ pub record Entry : Type 0 where
   pub date : Time
   pub extensions : List Extension
 
--- TBSCertList (RFC 5280, 5.1); the version counts from 0, as it is written, and is none where none is
+-- TBSCertList (RFC 5280, 5.1); the version counts from 0, as it is written, and is none if none is
 pub record TbsList : Type 0 where
   pub version : Option ℕ
   pub signature : Algorithm

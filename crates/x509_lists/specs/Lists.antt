@@ -37,7 +37,8 @@ RevokedCertificates Means = Box 16 (ToEnd (RevokedCertificate Means))
 -- TBSCertList ::= SEQUENCE { version Version OPTIONAL, signature AlgorithmIdentifier, issuer Name, thisUpdate Time,
 -- nextUpdate Time OPTIONAL, revokedCertificates SEQUENCE OF SEQUENCE { .. } OPTIONAL,
 -- crlExtensions [0] EXPLICIT Extensions OPTIONAL } (RFC 5280, 5.1)
--- Entries that can't be read count as absent and are left there. Extensions can't stand behind them then, but in their place.
+-- Entries that can't be read count as absent and are left there. Extensions can't come after them
+-- then, but in their place.
 pub record TbsParts (Means : ValueMeaning) (octets : List ℕ) (t : TbsList) (rest : List ℕ) : Type 0 where
   pub after_version : List ℕ
   pub version : Maybe (One IsVersion) octets t.version after_version

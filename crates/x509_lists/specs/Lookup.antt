@@ -1,4 +1,5 @@
--- What the calls on lists and entries tell of the first extension of an identifier (RFC 5280, 5.2.3, 5.3.1 and 5.3.2).
+-- What the calls on lists and entries return of the first extension of an identifier (RFC 5280,
+-- 5.2.3, 5.3.1 and 5.3.2).
 use Rattle.std.specs.Prelude.{ℕ, Bool, List, [], ◌∷◌, Option, Some, None}
 use Rattle.asn1_unsigned.specs.declared.unsigned.UnsignedBytes.{UnsignedBytes}
 use Rattle.x509_time.specs.declared.time.ASN1Time.{ASN1Time}
@@ -32,7 +33,7 @@ abbrev pub date_in : Bool → ParsedExtension → Option (Bool × ASN1Time)
 date_in critical (cases.InvalidityDate t) = Some (critical, t)
 date_in critical p = None
 
--- of the first extension, where there is one
+-- of the first extension, if there is one
 abbrev pub of_first : {A : Type 0} → (X509Extension → Option A) → List X509Extension → Option A
 of_first f [] = None
 of_first f (e ∷ es) = f e

@@ -1,5 +1,5 @@
 -- The readers of revocation lists as functions on octets, with the refusals that are promised, in their order. What they read
--- stands in `Lists`; laws tie each function to it.
+-- is defined in `Lists`; laws tie each function to it.
 use Rattle.std.specs.Prelude.{ℕ, ◌==◌, if◌then◌else◌, List, [], Option, Some, None, Ok, Err}
 use Rattle.asn1_core.specs.Elements.{Element}
 use Rattle.asn1_any.specs.Cutting.{Piece}
@@ -35,7 +35,7 @@ entry_list_at parse = next (λ p. extension_list_in parse p.element)
 abbrev pub listed : {A : Type 0} → Option (List A) × List ℕ → List A × List ℕ
 listed o = (or_none o.0, o.1)
 
--- none, and nothing read, where they can't be read
+-- none, and nothing read, if they can't be read
 unfoldable pub entry_extensions_at : ValueReading → List ℕ → List Extension × List ℕ
 entry_extensions_at parse i = listed (maybe_at (entry_list_at parse) i)
 
@@ -55,8 +55,8 @@ entries_in parse e = do
   content ← content_in 16 e
   to_end (many_of (entry_at parse) content)
 
--- Entries, where an element of their tag number is next. If they can't be read nothing else can be there: extensions begin with
--- another tag number.
+-- Entries, if an element of their tag number is next. If they can't be read nothing else can be
+-- there: extensions begin with another tag number.
 abbrev pub entries_behind : ValueReading → List ℕ → Piece × List ℕ → Answer (List Entry × List ℕ)
 entries_behind parse i p = if p.0.element.tag == 16 then (naming errors.InvalidExtensions (entries_in parse p.0.element) >>= λ es. Ok (es, p.1)) else Ok ([], i)
 

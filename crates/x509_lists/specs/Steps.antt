@@ -18,7 +18,7 @@ use Rattle.x509_lists.specs.declared.tbs.Signer.{Signer as SignerRead}
 use Rattle.x509_lists.specs.declared.tbs.Dates.{Dates as DatesRead}
 use Rattle.x509_lists.specs.declared.tbs.Revoked.{Revoked as RevokedRead}
 
--- what stands before the dates
+-- what comes before the dates
 pub record Signer : Type 0 where
   pub version : Option ℕ
   pub signature : Algorithm
@@ -28,7 +28,7 @@ pub record Dates : Type 0 where
   pub this_update : Time
   pub next_update : Option Time
 
--- what stands behind them
+-- what comes after them
 pub record Revoked : Type 0 where
   pub entries : List Entry
   pub extensions : List Extension

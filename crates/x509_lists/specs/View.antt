@@ -23,7 +23,7 @@ entry_errors e = map extension_error e.extensions.items
 abbrev pub HasSerial : RevokedCertificate → Type 0
 HasSerial e = number_of e.user_certificate ≡ number_from_digits 256 e.raw_serial.now
 
--- where a value of its extensions is none of its type, why isn't want of memory
+-- if a value of its extensions is none of its type, the error isn't `OutOfMemory`
 abbrev pub EntryWantsNoMemory : RevokedCertificate → Type 0
 EntryWantsNoMemory e = All WantsNoMemory e.extensions.items
 

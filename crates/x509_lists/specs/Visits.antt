@@ -17,7 +17,7 @@ use Rattle.x509_lists.specs.declared.list.CertificateRevocationList.{Certificate
 use Rattle.x509_lists.specs.declared.visit.ListVisit.{ListVisit}
 use Rattle.x509_lists.specs.declared.visit.ListVisit.TheVariants as visits
 
--- a call, and what it tells
+-- a call, and what it reports
 pub data Call : Type 0 where
   visit_tbs_cert_list : TbsCertList → Call
   visit_version : Option X509Version → Call
@@ -43,7 +43,7 @@ pub data Call : Type 0 where
   visit_signature_algorithm : AlgorithmIdentifier → Call
   visit_signature_value : BitString → Call
 
--- the data of a call: each reference by the value behind it
+-- the data of a call: each reference by the value that it refers to
 abbrev pub call_of : ListVisit → Call
 call_of (visits.VisitTbsCertList t) = visit_tbs_cert_list t.now
 call_of (visits.VisitVersion v) = visit_version (option_map (λ x. x.now) v)
@@ -82,7 +82,7 @@ call_by_kind e (cases.SCT s) = visit_extension_sct s.items
 call_by_kind e (cases.ParseError r) = visit_extension_parse_error e r
 call_by_kind e p = visit_extension_unknown e
 
--- an extension has two calls: it as it stands, and then by its kind
+-- an extension has two calls: it as it is encoded, and then by its kind
 abbrev pub calls_of_extension : X509Extension → List Call
 calls_of_extension e = visit_extension e ∷ call_by_kind e e.parsed_extension ∷ []
 
@@ -95,7 +95,7 @@ calls_of_each (e ∷ es) = calls_of_extension e ++ calls_of_each es
 abbrev pub calls_of_extensions : List X509Extension → List Call
 calls_of_extensions es = pre_visit_extensions es ∷ calls_of_each es ++ post_visit_extensions es ∷ []
 
--- what stands before the entries
+-- what comes before the entries
 abbrev pub calls_of_fields : TbsCertList → List Call
 calls_of_fields t =
     visit_version t.version

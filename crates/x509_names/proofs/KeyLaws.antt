@@ -87,7 +87,7 @@ rsa_reading = named_reading RSAPublicKey (next (λ q. rsa_key_in q.element)) err
 
 -- ---- what a key's octets are
 
--- the value that is read at the front, where one is
+-- the value that is read at the front, if one is
 value_by : {A : Type 0} (P : Grammar A) (i : List ℕ) (v : A) (r : Answer (A × List ℕ)) → ((x : A × List ℕ) → r ≡ Ok x → P i x.0 x.1) → value_of r ≡ Some v → (rest : List ℕ) × P i v rest
 value_by P i v (Ok x) found told = let same : x.0 ≡ v = cc in (x.1, subst (λ z. P i z x.1) same (found x refl))
 value_by P i v (Err e) found told = cc
@@ -130,7 +130,7 @@ integer_reading = next_reading IsInteger (λ p. integer_in p.element) integer_me
 octets_reading : IsReading (One IsOctets) octets_at
 octets_reading = next_reading IsOctets (λ p. octets_in p.element) octets_meaning
 
--- behind the first four kinds
+-- after the first four kinds
 gost_found : (identifier octets : List ℕ) (v : KeyValue) → AllBelowBase 256 octets → bytes_eq identifier rsa_id ≡ false → bytes_eq identifier ec_id ≡ false → bytes_eq identifier dsa_id ≡ false → bytes_eq identifier gost_id ≡ false
     → (if bytes_eq identifier gost_2012_256_id || bytes_eq identifier gost_2012_512_id then option_map gost_2012 (value_of (octets_at octets)) else Some (unknown octets)) ≡ Some v → IsKeyValue identifier octets v
 gost_found identifier octets v below no_rsa no_ec no_dsa no_gost given =

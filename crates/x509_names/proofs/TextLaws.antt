@@ -9,7 +9,7 @@ use Rattle.x509_names.specs.Fields.{Attribute, Name}
 use Rattle.x509_names.specs.NameTexts.{is_shown_as_text, utf8_text, wide_text, upper_hex, value_text, type_text, attribute_text, also, each_of, joined, set_text, name_text}
 use Rattle.x509_names.specs.Writing.{or_nothing, value_piece, attribute_piece, set_piece, sets_piece, can_be_shown, set_can_be_shown, sets_can_be_shown, is_nonempty, separator_if, left_texts}
 
--- a text, and those behind it
+-- a text, and those after it
 pub next_text : (begun : Bool) (separator text : List ℕ) (texts : List (List ℕ))
     → left_texts begun separator (text ∷ texts) ≡ separator_if begun separator ++ (text ++ left_texts (begun || is_nonempty text) separator texts)
 next_text true separator text texts = append_assoc separator text (flat_map (λ t. separator ++ t) texts)
@@ -80,7 +80,7 @@ set_by label attributes =
     ap (option_map (joined (codes " + "))) (each_by (attribute_text label) can_be_shown (attribute_piece label) (attribute_by label) attributes)
     ∙ mapped_by (joined (codes " + ")) (set_can_be_shown attributes) (map (attribute_piece label) attributes)
 
--- the text of a name is what is written, where each value can be shown
+-- the text of a name is what is written, if each value can be shown
 pub sets_by : (label : List ℕ → Option (List ℕ)) (sets : List (List Attribute))
     → option_map (joined (codes ", ")) (each_of (map (set_text label) sets)) ≡ (if sets_can_be_shown sets then Some (sets_piece label sets) else None)
 sets_by label sets =
@@ -98,7 +98,7 @@ utf8_by false content other = refl
 pub utf8_missing : (content : List ℕ) → (IsUtf8 content → ⊥) → utf8_text content ≡ None
 utf8_missing content other = utf8_by (is_utf8 content) content (λ is. other (IsUtf8-from_is_utf8 content is))
 
--- what is told of a name whose values can be shown, and of another
+-- what is returned for a name whose values can be shown, and of another
 pub name_told : (label : List ℕ → Option (List ℕ)) (name : Name) → sets_can_be_shown name.sets ≡ true → name_text label name ≡ Some (sets_piece label name.sets)
 name_told label name is = sets_by label name.sets ∙ ap (λ b. if b then Some (sets_piece label name.sets) else None) is
 
@@ -109,7 +109,7 @@ or_so : (begun some : Bool) → some ≡ true → (begun || some) ≡ true
 or_so true some is = refl
 or_so false some is = is
 
--- a text that isn't empty, and those behind it
+-- a text that isn't empty, and those after it
 pub next_some : (begun : Bool) (separator text : List ℕ) (texts : List (List ℕ)) → is_nonempty text ≡ true
     → left_texts begun separator (text ∷ texts) ≡ separator_if begun separator ++ (text ++ left_texts true separator texts)
 next_some begun separator text texts is =
@@ -120,7 +120,7 @@ nonempty_map : {A B : Type 0} (f : A → B) (xs : List A) → is_nonempty (map f
 nonempty_map f [] = refl
 nonempty_map f (x ∷ xs) = refl
 
--- the text of a set is there where an attribute is
+-- the text of a set is there if an attribute is
 pub set_begins : {A : Type 0} (label : List ℕ → Option (List ℕ)) (view : A → Attribute) (attributes : List A)
     → is_nonempty attributes ≡ is_nonempty (set_piece label (map view attributes))
 set_begins label view attributes = sym (set_is_some label (map view attributes) ∙ nonempty_map view attributes)

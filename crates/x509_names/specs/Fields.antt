@@ -13,7 +13,7 @@ pub record Attribute : Type 0 where
   pub identifier : List ℕ
   pub value : Element
 
--- Name (RFC 5280, 4.1.2.4): its sets of attributes, in the order in which they stand
+-- Name (RFC 5280, 4.1.2.4): its sets of attributes, in the order in which they come
 pub record Name : Type 0 where
   pub sets : List (List Attribute)
   pub raw : List ℕ

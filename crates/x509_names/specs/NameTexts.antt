@@ -1,4 +1,4 @@
--- The text of a name, as `C=FR, O=Some + CN=Other`. Texts stand as their octets.
+-- The text of a name, as `C=FR, O=Some + CN=Other`. Texts are given as their octets.
 use Rattle.std.specs.Prelude.{ℕ, ◌+◌, ◌*◌, ◌/◌, ◌%◌, ◌==◌, ◌||◌, ◌&&◌, nat_le, Bool, true, if◌then◌else◌, List, [], ◌∷◌, ◌++◌, map, codes, Option, Some, None, option_map, bytes_eq}
 use Rattle.std.specs.Char.Utf16.{utf16_lossy_chars}
 use Rattle.std.specs.Fmt.{digit_glyph}
@@ -50,7 +50,7 @@ value_text e =
     if e.tag == 30 then wide_text e.content else
     Some (upper_hex e.content)
 
--- the name of a type where there is one, else its identifier, as `OID(1.2.3)`
+-- the name of a type if there is one, else its identifier, as `OID(1.2.3)`
 abbrev pub type_text : (List ℕ → Option (List ℕ)) → List ℕ → List ℕ
 type_text label identifier = unwrap_or (label identifier) (codes "OID(" ++ oid_text identifier ++ codes ")")
 
@@ -58,7 +58,7 @@ type_text label identifier = unwrap_or (label identifier) (codes "OID(" ++ oid_t
 abbrev pub attribute_text : (List ℕ → Option (List ℕ)) → Attribute → Option (List ℕ)
 attribute_text label a = option_map (λ value. type_text label a.identifier ++ 0x3D ∷ value) (value_text a.value)
 
--- all of them, where each is there
+-- all of them, if each is there
 abbrev pub also : {A : Type 0} → Option A → Option (List A) → Option (List A)
 also None xs = None
 also (Some x) xs = option_map (λ l. x ∷ l) xs
@@ -67,7 +67,7 @@ abbrev pub each_of : {A : Type 0} → List (Option A) → Option (List A)
 each_of [] = Some []
 each_of (x ∷ xs) = also x (each_of xs)
 
--- texts one behind the other; a separator stands only behind a text that isn't empty
+-- texts one after another; a separator comes only after a text that isn't empty
 abbrev pub joined : List ℕ → List (List ℕ) → List ℕ
 joined separator [] = []
 joined separator ([] ∷ texts) = joined separator texts
@@ -76,11 +76,11 @@ joined separator ((x ∷ text) ∷ texts) = join_by (λ t. t) separator ((x ∷ 
 abbrev pub set_text : (List ℕ → Option (List ℕ)) → List Attribute → Option (List ℕ)
 set_text label attributes = option_map (joined (codes " + ")) (each_of (map (attribute_text label) attributes))
 
--- the text of a name, types being named so; none where a value can't be shown
+-- the text of a name, types being named so; none if a value can't be shown
 abbrev pub name_text : (List ℕ → Option (List ℕ)) → Name → Option (List ℕ)
 name_text label name = option_map (joined (codes ", ")) (each_of (map (set_text label) name.sets))
 
--- the abbreviation of an attribute type, or else the short name that the registry that is handed out tells
+-- the abbreviation of an attribute type, or else the short name in the registry that is handed out
 abbrev pub known_label : List ℕ → Option (List ℕ)
 known_label identifier = name_or (abbreviation_of identifier) (known_entry identifier)
 

@@ -40,7 +40,7 @@ pub data IsKeyValue (identifier : List ℕ) (octets : List ℕ) (v : KeyValue) :
   is_gost_512 : (y rest : List ℕ) → identifier ≡ gost_2012_512_id → One IsOctets octets y rest → v ≡ gost_2012 y → IsKeyValue identifier octets v
   is_unknown : IsUnknown identifier → v ≡ unknown octets → IsKeyValue identifier octets v
 
--- a number of bits as a machine integer tells it: the greatest one where there are more
+-- a number of bits as a machine integer: the greatest one if there are more
 abbrev pub told_bits : ℕ → ℕ
 told_bits n = min n (2 ^ 64 - 1)
 
@@ -49,13 +49,13 @@ abbrev pub rsa_bits : List ℕ → ℕ
 rsa_bits [] = 0
 rsa_bits (first ∷ octets) = if nat_lt first 128 then told_bits (8 * length octets) else 0
 
--- one coordinate of two behind 04, of one behind 02 and 03 (SEC 1, 2.3.3)
+-- one coordinate of two after 04, of one after 02 and 03 (SEC 1, 2.3.3)
 abbrev pub ec_bits : List ℕ → ℕ
 ec_bits [] = 0
 ec_bits (form ∷ octets) =
     if form == 4 then told_bits (4 * length octets) else (if (form == 2) || (form == 3) then told_bits (8 * length octets) else 0)
 
--- in bits; 0 where the kind tells none
+-- in bits; 0 if the kind has no size
 abbrev pub key_bits : KeyValue → ℕ
 key_bits (rsa k) = rsa_bits k.modulus
 key_bits (ec point) = ec_bits point

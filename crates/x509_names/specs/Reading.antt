@@ -1,5 +1,6 @@
--- The readers of this crate as functions on octets, with the refusals that are promised, in their order. What they read stands
--- in `Leaves`, `Names` and `PublicKeys`; laws tie each function to it.
+-- The readers of this crate as functions on octets, with the refusals that are promised, in their
+-- order. What they read is defined in `Leaves`, `Names` and `PublicKeys`; laws tie each function to
+-- it.
 use Rattle.std.specs.Prelude.{ℕ, ◌-◌, ◌||◌, if◌then◌else◌, List, [], ◌∷◌, length, take, Option, Some, None, option_map, Ok, Err, bytes_eq}
 use Rattle.std.specs.Result.{result_ok}
 use Rattle.asn1_core.specs.Elements.{Element}
@@ -48,7 +49,7 @@ bits_in e = leaf_in 3 e >>= bits_of
 abbrev pub bits_at : Reader Bits
 bits_at = next (λ p. bits_in p.element)
 
--- none where no octet is left, else the next element
+-- none if no octet is left, else the next element
 abbrev pub parameters_at : Reader (Option Element)
 parameters_at [] = Ok (None, [])
 parameters_at (x ∷ s) = do
@@ -121,7 +122,7 @@ rsa_key_in e = do
 abbrev pub rsa_key_at : Reader RsaKey
 rsa_key_at i = naming errors.InvalidSPKI (next (λ p. rsa_key_in p.element) i)
 
--- what was read, where something was
+-- what was read, if something was
 abbrev pub value_of : {A : Type 0} → Answer (A × List ℕ) → Option A
 value_of read = option_map (λ z. z.0) (result_ok read)
 

@@ -44,16 +44,16 @@ set_can_be_shown attributes = list_all can_be_shown attributes
 abbrev pub sets_can_be_shown : List (List Attribute) → Bool
 sets_can_be_shown sets = list_all set_can_be_shown sets
 
--- whether a text stands there
+-- whether a text is there
 abbrev pub is_nonempty : {A : Type 0} → List A → Bool
 is_nonempty [] = false
 is_nonempty (x ∷ xs) = true
 
--- the separator, where something stands before
+-- the separator, if something comes before
 abbrev pub separator_if : Bool → List ℕ → List ℕ
 separator_if begun separator = if begun then separator else []
 
--- what is left to write: each text behind a separator, but the first
+-- what is left to write: each text after a separator, but the first
 abbrev pub left_texts : Bool → List ℕ → List (List ℕ) → List ℕ
 left_texts true separator texts = flat_map (λ text. separator ++ text) texts
 left_texts false separator texts = joined separator texts

@@ -99,7 +99,7 @@ fn abbreviation(octets: &[u8]) -> Option<&'static str>
     }
 }
 
-// The short name that the registry that is handed out tells.
+// The short name in the registry that is handed out.
 fn short_name(octets: &[u8]) -> Option<&'static str>
     ensures { option_map (λ s. s.now) result ≡ option_map (λ e. e.short_name) (known_entry octets.now) }
 {

@@ -44,7 +44,7 @@ fn set_is_shown(attributes: &[AttributeTypeAndValue<'_>]) -> bool
     true
 }
 
-// The sets, a comma behind each that isn't empty, but the last.
+// The sets, a comma after each that isn't empty, but the last.
 fn write_sets<W: fmt::Write>(
     sets: &[RelativeDistinguishedName<'_>],
     labels: Labels<'_>,
@@ -87,7 +87,7 @@ fn write_set<W: fmt::Write>(
     Ok(())
 }
 
-// The separator, where something was written before.
+// The separator, if something was written before.
 fn separate<W: fmt::Write>(begun: bool, separator: &str, f: &mut fmt::Formatter<W>) -> fmt::Result
     ensures { DisplaysOnOk W.write_str_gives f.old result (Some (separator_if begun separator.now)) f.new }
 {

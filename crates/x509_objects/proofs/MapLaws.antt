@@ -1,4 +1,4 @@
--- What a map of octets tells, and what it tells with one more entry.
+-- What a map of octets returns, and what it returns with one more entry.
 use Rattle.std.proofs.Common.{◌≡◌, ◌≢◌, ◌∙◌, sym, ap, refl, ℕ, Bool, true, false, if◌then◌else◌, List, [], ◌∷◌, Option, Some, None, option_map, bytes_eq, Ordering, Less, Equal, Greater, Bor}
 use Rattle.std.specs.BTreeMap.{insert_entry, is_at}
 use Rattle.std.specs.Option.{option_copied}

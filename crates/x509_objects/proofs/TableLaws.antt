@@ -1,4 +1,4 @@
--- A table tells what stands in its rows.
+-- A table returns what is in its rows.
 use Rattle.std.proofs.Common.{◌≡◌, sym, refl, subst, ℕ, Bool, true, false, List, [], ◌∷◌, Some, None, bytes_eq}
 use Rattle.std.proofs.lemmas.Slice.Eq.{bytes_eq-Decides}
 use Rattle.x509_objects.specs.Table.{Row, told_of, IsRow, here, behind, known, abbreviations}

@@ -1,4 +1,4 @@
--- What a registry tells of identifiers.
+-- What a registry holds of identifiers.
 use Rattle.std.specs.Prelude.{ℕ, List, [], ◌∷◌, Option, Some, None, option_map, if◌then◌else◌, bytes_eq}
 use Rattle.x509_objects.specs.Table.{Entry, abbreviation_of}
 use Rattle.x509_objects.specs.declared.registry.OidEntry.{OidEntry}
@@ -7,12 +7,12 @@ use Rattle.x509_objects.specs.declared.registry.OidRegistry.{OidRegistry}
 abbrev pub entry_view : OidEntry → Entry
 entry_view e = record { short_name = e.sn.now; description = e.description.now }
 
--- what the first pair tells whose key has these octets
+-- the value of the first pair whose key has these octets
 abbrev pub entry_in : {K V : Type 0} → (K → List ℕ) → (V → Entry) → List (K × V) → List ℕ → Option Entry
 entry_in key see [] id = None
 entry_in key see (e ∷ es) id = if bytes_eq id (key e.0) then Some (see e.1) else entry_in key see es id
 
--- what the registry tells of an identifier of these content octets
+-- what the registry holds of an identifier of these content octets
 abbrev pub entry_of : OidRegistry → List ℕ → Option Entry
 entry_of r id = entry_in (λ k. k.items) entry_view r.entries.entries id
 

@@ -7,7 +7,7 @@ pub record Entry : Type 0 where
   pub short_name : List ℕ
   pub description : List ℕ
 
--- something that is told of an identifier
+-- something that is known of an identifier
 pub record Row (A : Type 0) : Type 0 where
   pub identifier : List ℕ
   pub told : A
@@ -63,7 +63,7 @@ abbreviations =
     ∷ short ids.email_id (codes "Email")
     ∷ []
 
--- what the first row of an identifier tells, or else something other
+-- what the first row of an identifier gives, or else something other
 abbrev pub told_else : {A : Type 0} → List (Row A) → List ℕ → Option A → Option A
 told_else [] id other = other
 told_else (row ∷ rows) id other = if bytes_eq id row.identifier then Some row.told else told_else rows id other
@@ -71,14 +71,14 @@ told_else (row ∷ rows) id other = if bytes_eq id row.identifier then Some row.
 abbrev pub told_of : {A : Type 0} → List (Row A) → List ℕ → Option A
 told_of rows id = told_else rows id None
 
--- what the registry that is handed out tells, and the abbreviations
+-- what the registry that is handed out gives, and the abbreviations
 abbrev pub known_entry : List ℕ → Option Entry
 known_entry id = told_of known id
 
 abbrev pub abbreviation_of : List ℕ → Option (List ℕ)
 abbreviation_of id = told_of abbreviations id
 
--- a row of the table tells this of this identifier
+-- a row of the table gives this of this identifier
 pub data IsRow {A : Type 0} (id : List ℕ) (told : A) : List (Row A) → Type 0 where
   here : (row : Row A) (rows : List (Row A)) → row.identifier ≡ id → row.told ≡ told → IsRow id told (row ∷ rows)
   behind : (row : Row A) (rows : List (Row A)) → IsRow id told rows → IsRow id told (row ∷ rows)

@@ -337,7 +337,7 @@ all_only Means parse law i vs r below is =
     let all = many_only (X509CriAttribute Means) (attribute_at parse) (attribute_reading Means parse law) (attribute_shortens Means) vs i [] below is.0 in
     ap to_end all
 
--- what the loop over attributes tells, where it stops and where it ends
+-- what the loop over attributes returns, as it stops and as it ends
 pub all_stop : (parse : ValueReading) (i left : List ℕ) (vs : List RequestAttribute) → many_of (attribute_at parse) i ≡ (vs, left) → 0 < length left → all_attributes_at parse i ≡ Err unnamed
 unfolding all_attributes_at
 all_stop parse i [] vs read some = absurd (omega (arith, some))

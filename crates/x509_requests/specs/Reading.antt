@@ -1,5 +1,5 @@
 -- The readers of certification requests as functions on octets, with the refusals that are promised, in their order. What they
--- read stands in `Requests`; laws tie each function to it.
+-- read is defined in `Requests`; laws tie each function to it.
 use Rattle.std.specs.Prelude.{ℕ, ◌==◌, ◌&&◌, Bool, if◌then◌else◌, List, Ok, Err, bytes_eq}
 use Rattle.std.specs.List.{list_all}
 use Rattle.std.specs.Str.{is_utf8}
@@ -35,7 +35,7 @@ password_in e =
 abbrev pub password_at : Reader (List ℕ)
 password_at = next (λ p. password_in p.element)
 
--- what stands behind the SET's header, by the attribute's type
+-- what comes after the SET's header, by the attribute's type
 unfoldable pub values_at : ValueReading → List ℕ → Reader AttributeValues
 values_at parse id i =
     if bytes_eq id extension_request_id then (requested_at parse i >>= λ es. Ok (extension_request es.0, es.1))
@@ -71,7 +71,7 @@ named_attribute_at parse i = naming errors.InvalidAttributes (attribute_at parse
 unfoldable pub all_attributes_at : ValueReading → List ℕ → Answer (List RequestAttribute)
 all_attributes_at parse i = to_end (many_of (attribute_at parse) i)
 
--- behind the header, whose length isn't used
+-- after the header, whose length isn't used
 abbrev pub attributes_behind : ValueReading → Head × List ℕ → Answer (List RequestAttribute)
 attributes_behind parse h = if (h.0.class == 2) && (h.0.tag == 0) then all_attributes_at parse h.1 else Err (named errors.InvalidAttributes)
 

@@ -26,8 +26,8 @@ pub data IsPassword (piece : Piece) (text : List ℕ) : Type 0 where
   utf8 : Leaf 12 (MeansTextOf IsUtf8 (λ v. v)) piece text → IsPassword piece text
   printable : Leaf 19 (MeansTextOf (IsTextOf is_printable) (λ v. v)) piece text → IsPassword piece text
 
--- what stands behind the header of an attribute's SET, by the attribute's type: the first value; of any other type nothing is
--- read
+-- what comes after the header of an attribute's SET, by the attribute's type: the first value; of
+-- any other type nothing is read
 pub data Values (Means : ValueMeaning) (identifier octets : List ℕ) (v : AttributeValues) (rest : List ℕ) : Type 0 where
   extensions : (es : List Extension) → identifier ≡ extension_request_id → v ≡ extension_request es → ExtensionRequest Means octets es rest → Values Means identifier octets v rest
   password : (text : List ℕ) → identifier ≡ challenge_password_id → v ≡ challenge_password text → One IsPassword octets text rest → Values Means identifier octets v rest
@@ -51,7 +51,7 @@ pub record IsAttribute (Means : ValueMeaning) (e : BerElement) (a : RequestAttri
   pub left : List ℕ
   pub parts : AttributeParts Means e.content a left
 
--- the same by the rules of BER: of definite length, or of the indefinite form
+-- an attribute by the rules of BER: of definite length, or of the indefinite form
 abbrev pub X509CriAttribute : ValueMeaning → Grammar RequestAttribute
 X509CriAttribute Means = ReadsBerElement (IsAttribute Means)
 

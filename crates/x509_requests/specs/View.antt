@@ -21,7 +21,8 @@ abbrev pub values_errors : ParsedCriAttribute → List (Option (Refusal Error))
 values_errors (cases.ExtensionRequest r) = map extension_error r.extensions.items
 values_errors a = []
 
--- where a value of the extensions that are asked for is none of its type, why isn't want of memory
+-- if a value of the extensions that are asked for is none of its type, the error isn't
+-- `OutOfMemory`
 abbrev pub ValuesWantNoMemory : ParsedCriAttribute → Type 0
 ValuesWantNoMemory (cases.ExtensionRequest r) = All WantsNoMemory r.extensions.items
 ValuesWantNoMemory a = Unit {0}

@@ -40,7 +40,7 @@ local_small days n small between = omega (arith, signed_arith, between)
 no_offset : (n : ℤ) → n ≡ n -ℤ pos 0 *ℤ pos 60_000_000_000
 no_offset n = omega (arith, signed_arith)
 
--- a moment that is told in universal time
+-- a moment that is expressed in universal time
 pub universal_in : (year : ℕ) (t : ASN1DateTime) → HasClock year t → t.tz ≡ zones.Z → IsCivilNanos (local_nanos year t -ℤ zone_minutes t.tz *ℤ pos 60_000_000_000)
 universal_in year t h zone =
     let here = local_small (days_from_civil (pos year) t.month t.day) (clock_nanos t) (clock_small year t h) (days_small year t h) in

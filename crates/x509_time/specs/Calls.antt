@@ -21,12 +21,12 @@ pub record IsTimeOf (nanoseconds : ℤ) (t : ASN1Time) : Type 0 where
   pub moment : civil_nanos t.time ≡ nanoseconds
   pub form : t.generalized ≡ is_late t.time
 
--- such a time, or none where the calendar lacks the moment
+-- such a time, or none if the calendar lacks the moment
 abbrev pub GivesTimeOf : ℤ → Option ASN1Time → Type 0
 GivesTimeOf n (Some t) = IsTimeOf n t
 GivesTimeOf n None = IsCivilNanos n → ⊥
 
--- the same; InvalidDate where the calendar lacks the moment
+-- such a time; `InvalidDate` if the calendar lacks the moment
 abbrev pub ReadsTimeOf : ℤ → Result ASN1Time X509Error → Type 0
 ReadsTimeOf n (Ok t) = IsTimeOf n t
 ReadsTimeOf n (Err e) = (e ≡ errors.InvalidDate) × (IsCivilNanos n → ⊥)
@@ -36,7 +36,7 @@ abbrev pub AreSeconds : ℤ → ℤ → Type 0
 AreSeconds nanoseconds n =
     ((n *ℤ pos 1_000_000_000) ≤ℤ nanoseconds) × (nanoseconds <ℤ ((n +ℤ pos 1) *ℤ pos 1_000_000_000))
 
--- how much later a moment is than another, or none where it isn't later
+-- how much later a moment is than another, or none if it isn't later
 abbrev pub GivesLater : ℤ → ℤ → Option SignedDuration → Type 0
 GivesLater later earlier (Some d) = (earlier <ℤ later) × (signed_nanos d ≡ later -ℤ earlier)
 GivesLater later earlier None = later ≤ℤ earlier
@@ -49,7 +49,7 @@ IsAtMost a b = (a.nanoseconds <ℤ b.nanoseconds) ⊎ ((a.nanoseconds ≡ b.nano
 abbrev pub IsWithin : Period → Time → Type 0
 IsWithin v t = IsAtMost v.not_before t × IsAtMost t v.not_after
 
--- how long a validity goes on behind a time that lies in it, the last moment left out
+-- how long a validity goes on after a time that lies in it, the last moment left out
 abbrev pub GivesLeft : Period → Time → Option SignedDuration → Type 0
 GivesLeft v t (Some d) = IsWithin v t × (t.nanoseconds <ℤ v.not_after.nanoseconds) × (signed_nanos d ≡ v.not_after.nanoseconds -ℤ t.nanoseconds)
 GivesLeft v t None = (IsWithin v t × (t.nanoseconds <ℤ v.not_after.nanoseconds)) → ⊥

@@ -1,4 +1,5 @@
--- Functions that answer as the readers do. The meaning stands in `Times` and `Updates`; laws tie each function to it.
+-- Functions that return what the readers do. The meaning is defined in `Times` and `Updates`; laws
+-- tie each function to it.
 use Rattle.std.specs.Prelude.{◌≡◌, ℕ, ℤ, ◌%◌, ◌==◌, ◌&&◌, ◌||◌, not, nat_le, Bool, true, false, if◌then◌else◌, List, [], ◌∷◌, length, Option, Some, None, option_map, option_and_then, is_some, Ok, Err}
 use Rattle.std.specs.List.{list_all}
 use Rattle.asn1_core.specs.Elements.{Element}
@@ -62,7 +63,7 @@ is_other_header (Err e) general = false
 is_other_header (Ok h) general =
     nat_le h.0.size 4_294_967_295 && not (h.0.tag == 23) && (not (h.0.tag == 24) || not general)
 
--- whether a time is absent where none is read
+-- whether a time is absent if none is read
 unfoldable pub is_absent : List ℕ → Bool
 is_absent i = is_cut_tag i || is_other_header (front_header_at i) (begins_general_time (option_map (λ p. p.element) (first_piece i)))
 

@@ -50,7 +50,7 @@ rfc2822_text d =
     weekday_name (weekday_of d.date) ++ codes ", " ++ two_digits d.date.day ++ codes " " ++ month_name d.date.month ++ codes " "
     ++ four_digits (unsigned_abs d.date.year) ++ codes " " ++ clock_text d.time ++ codes " +0000"
 
--- that text; InvalidDate before the year 1900, and nothing else but want of memory
+-- that text; InvalidDate before the year 1900, and nothing else but `OutOfMemory`
 abbrev pub WritesRfc2822 : {A : Type 0} → DateTime → Result (String A) X509Error → Type 0
 WritesRfc2822 d (Ok text) = (pos 1900 ≤ℤ d.date.year) × (string_bytes text ≡ rfc2822_text d)
 WritesRfc2822 d (Err errors.InvalidDate) = d.date.year <ℤ pos 1900

@@ -1,4 +1,4 @@
--- The time of a list's next update, or that none stands there (RFC 5280, 5.1.2.5).
+-- The time of a list's next update, or that there is none (RFC 5280, 5.1.2.5).
 use Rattle.std.specs.Prelude.{◌≡◌, ◌≢◌, ℕ, ◌+◌, ◌<◌, ◌≤◌, Bool, List, [], ◌∷◌, map, Option, Some, None}
 use Rattle.std.specs.Int.Digits.{AllBelowBase}
 use Rattle.asn1_any.specs.Cutting.{Piece}
@@ -12,7 +12,8 @@ use Rattle.x509_time.specs.Times.{Time, GeneralContent, ASN1Time}
 abbrev pub IsGeneralTime : Piece → ASN1DateTime → Type 0
 IsGeneralTime piece t = Leaf 24 GeneralContent piece t
 
--- the octets end within a tag number of the high form: none behind the first is below 128 (X.690, 8.1.2.4)
+-- the octets end within a tag number of the high form: none after the first is below 128 (X.690,
+-- 8.1.2.4)
 pub record IsCutTag (octets : List ℕ) : Type 0 where
   pub class : ℕ
   pub constructed : Bool
@@ -21,8 +22,8 @@ pub record IsCutTag (octets : List ℕ) : Type 0 where
   pub below : AllBelowBase 128 digits
   pub whole : octets ≡ lead class constructed 31 ∷ map (λ d. 128 + d) digits
 
--- a header of another tag number than those of a Time, or of GeneralizedTime's where none begins the octets. What it counts
--- needn't be there, but is no more than the greatest object has.
+-- a header of another tag number than those of a Time, or of GeneralizedTime's if none begins the
+-- octets. What it counts needn't be there, but is no more than the greatest object has.
 pub record IsNoTime (octets : List ℕ) : Type 0 where
   pub head : Head
   pub after_header : List ℕ

@@ -24,7 +24,7 @@ impl ASN1Time {
         }
     }
 
-    // How much later this moment is, where it is later.
+    // How much later this moment is, if it is later.
     pub(crate) fn checked_since(&self, earlier: &ASN1Time) -> Option<SignedDuration>
         ensures { GivesLater (civil_nanos self.now.time) (civil_nanos earlier.now.time) result }
     {

@@ -24,7 +24,7 @@ use jiff::civil::DateTime;
 use std::alloc::Global;
 use x509_core::{Parts, X509Error, X509Result};
 
-// The moment of a UTCTime's content, where it is one's and the calendar has it.
+// The moment of a UTCTime's content, if it is one's and the calendar has it.
 #[tactic(auto, unfolding(crate::specs::Reading::utc_nanos_at))]
 fn utc_moment(content: &[u8]) -> Option<DateTime>
     ensures { option_map civil_nanos result ≡ utc_nanos_at content.now }

@@ -43,6 +43,6 @@ next_refused [] e old new p = p.0
 next_refused (m ∷ ms) e old new (inl p) = p.0
 next_refused (m ∷ ms) e old new (inr p) = one_refused m.weight m.text e old new p
 
--- what is kept is refused for want of memory alone
+-- what is kept is refused for lack of memory alone
 pub out_of_memory : (ms : List Message) (e : LogError) (old new : VecLogger) → TakesSome KeepsWarning KeepsError old ms e new → e ≡ errors.OutOfMemory
 out_of_memory ms e old new p = next_refused p.back e p.between new p.ends

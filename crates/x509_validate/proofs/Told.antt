@@ -1,4 +1,4 @@
--- Messages that were told, one after the other.
+-- Messages that were logged, one after another.
 use Rattle.std.proofs.Common.{◌≡◌, ◌∙◌, ap, refl, sym, subst, map, true, false, ◌&&◌, Bool, List, [], ◌∷◌, ◌++◌, append_assoc, ℕ, Result, Ok, Err, inl, inr}
 use Rattle.std.specs.List.{FoldsTo, list_all}
 use Rattle.std.proofs.lemmas.List.{append-nil}
@@ -36,12 +36,12 @@ done warns errs old all now p = subst (λ z. TakesAll warns errs old z now) (sym
 pub refused : {L : Type 0} (warns errs : Tells L) (old : L) (all : List Message) (now : L) (m : Message) (rest : List Message) (e : LogError) (next : L) → Progress warns errs old all now (m ∷ rest) → TellsWeight warns errs m.weight now m.text (Err e) next → TakesSome warns errs old all e next
 refused warns errs old all now m rest e next p t = record { front = p.front; back = m ∷ rest; parts = p.parts; between = now; taken = p.taken; ends = inr t }
 
--- nothing was told, since memory ran out
+-- nothing was logged, since memory ran out
 pub untold : {L : Type 0} (warns errs : Tells L) (old : L) (all : List Message) (e : LogError) → e ≡ errors.OutOfMemory → TakesSome warns errs old all e old
 untold warns errs old [] e why = record { front = []; back = []; parts = refl; between = old; taken = refl; ends = (why, refl) }
 untold warns errs old (m ∷ ms) e why = record { front = []; back = m ∷ ms; parts = refl; between = old; taken = refl; ends = inl (why, refl) }
 
--- two lists of messages, one behind the other
+-- two lists of messages, one after another
 pub joined : {L : Type 0} (warns errs : Tells L) (old : L) (xs ys : List Message) (between new : L) → TakesAll warns errs old xs between → TakesAll warns errs between ys new → TakesAll warns errs old (xs ++ ys) new
 joined warns errs old xs ys between new p q = folds_join (Takes warns errs) old xs ys between new p q
 

@@ -46,7 +46,7 @@ abbrev pub general_names_messages : List GeneralName → List Message
 general_names_messages [] = []
 general_names_messages (n ∷ others) = general_name_messages n ++ general_names_messages others
 
--- of the subject's alternative names, where the value is these
+-- of the subject's alternative names, if the value is these
 abbrev pub alternative_messages : ParsedExtension → List Message
 alternative_messages (cases.SubjectAlternativeName n) = general_names_messages n.general_names.items
 alternative_messages _ = []

@@ -8,7 +8,7 @@ use Rattle.x509_validate.specs.Logging.{Tells}
 use Rattle.x509_validate.specs.Messages.{Weight, warning, fault, fatal, Message}
 use Rattle.x509_validate.specs.declared.logger.LogError.TheVariants as errors
 
--- the text came behind those that were kept, or memory ran out and they are as they were
+-- the text came after those that were kept, or memory ran out and they are as they were
 abbrev pub Keeps : List (List ℕ) → List (List ℕ) → List ℕ → Result ⊤ LogError → Type 0
 Keeps old new text (Ok x) = new ≡ old ++ text ∷ []
 Keeps old new text (Err e) = (e ≡ errors.OutOfMemory) × (new ≡ old)
@@ -18,14 +18,14 @@ abbrev pub WritesLine : Option (List ℕ) → Option (List ℕ) → ℕ → ℕ 
 WritesLine old new old_failures new_failures line (Ok x) = Appends old new (line ++ 10 ∷ []) × (new_failures ≡ old_failures)
 WritesLine old new old_failures new_failures line (Err e) = (e ≡ errors.Write) × AppendsFront old new (line ++ 10 ∷ []) × (new_failures ≡ old_failures + 1)
 
--- a warning came behind those that were kept, or memory ran out; errors are as they were
+-- a warning came after those that were kept, or memory ran out; errors are as they were
 abbrev pub KeepsWarning : Tells VecLogger
 KeepsWarning old text answer new = Keeps (map string_bytes old.warnings.items) (map string_bytes new.warnings.items) text answer × (old.errors.items ≡ new.errors.items)
 
 abbrev pub KeepsError : Tells VecLogger
 KeepsError old text answer new = Keeps (map string_bytes old.errors.items) (map string_bytes new.errors.items) text answer × (old.warnings.items ≡ new.warnings.items)
 
--- the texts that are told as warnings, and those that are told as errors
+-- the texts that are logged as warnings, and those that are logged as errors
 abbrev pub warning_text : Weight → List ℕ → List (List ℕ)
 warning_text warning text = text ∷ []
 warning_text fault text = []

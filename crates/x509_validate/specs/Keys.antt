@@ -6,7 +6,8 @@ use Rattle.x509_names.specs.Reading.{key_value_of}
 use Rattle.x509_validate.specs.Messages.{Message, message, warning, fatal}
 use Rattle.x509_validate.specs.Names.{is_high}
 
--- a warning where a number is negative: the first octet of its content has the highest bit (X.690, 8.3.3)
+-- a warning if a number is negative: the first octet of its content has the highest bit (X.690,
+-- 8.3.3)
 abbrev pub sign_messages : List ℕ → List ℕ → List Message
 sign_messages text [] = []
 sign_messages text (first ∷ octets) = if is_high first then message warning text ∷ [] else []
@@ -32,7 +33,8 @@ read_messages None = message fatal (codes "Invalid public key") ∷ []
 abbrev pub key_messages : Key → List Message
 key_messages k = read_messages (key_value_of k.algorithm.identifier k.key.octets)
 
--- the same, in words of what a key's octets are: what is said of the value, or that there is none
+-- the messages of a key, in words of what its octets are: what is said of the value, or that there
+-- is none
 pub data AreKeyMessages (k : Key) (ms : List Message) : Type 0 where
   of_value : (v : KeyValue) → IsKeyValue k.algorithm.identifier k.key.octets v → ms ≡ value_messages v → AreKeyMessages k ms
   of_none : ((v : KeyValue) → IsKeyValue k.algorithm.identifier k.key.octets v → ⊥) → ms ≡ message fatal (codes "Invalid public key") ∷ [] → AreKeyMessages k ms

@@ -4,11 +4,11 @@ use Rattle.std.specs.List.{list_all}
 
 -- how bad it is
 pub data Weight : Type 0 where
-  -- told as a warning
+  -- logged as a warning
   warning : Weight
-  -- told as an error
+  -- logged as an error
   fault : Weight
-  -- told as an error, and the answer is false
+  -- logged as an error, and the result is false
   fatal : Weight
 
 -- a message and its text, as octets

@@ -1,4 +1,4 @@
--- What is said of identifiers that stand twice, and of extensions by their kinds.
+-- What is said of identifiers that come twice, and of extensions by their kinds.
 use Rattle.std.specs.Prelude.{ℕ, ◌==◌, ◌&&◌, ◌||◌, not, Bool, true, false, if◌then◌else◌, codes, Option, Some, None, List, [], ◌∷◌, ◌++◌, map}
 use Rattle.asn1_oid.specs.Text.{oid_text}
 use Rattle.x509_ext_policies.specs.Reading.{has}
@@ -16,7 +16,7 @@ repeat_messages text kept [] = []
 repeat_messages text kept (id ∷ ids) =
     if has id kept then message fatal (text ++ oid_text id) ∷ repeat_messages text kept ids else repeat_messages text (kept ++ id ∷ []) ids
 
--- one of the two that name an issuer's certificate stands without the other (RFC 5280, 4.2.1.1)
+-- one of the two that name an issuer's certificate is there without the other (RFC 5280, 4.2.1.1)
 abbrev pub half_messages : {X Y : Type 0} → Option X → Option Y → List Message
 half_messages (Some x) None = message warning (codes "AKI: only one of Issuer and Serial is present") ∷ []
 half_messages None (Some y) = message warning (codes "AKI: only one of Issuer and Serial is present") ∷ []

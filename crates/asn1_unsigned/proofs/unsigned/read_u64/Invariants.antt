@@ -2,7 +2,7 @@ use Rattle.std.proofs.Common.{◌≡◌, ◌^◌, ◌<◌, length}
 use Rattle.std.specs.Int.Digits.{number_from_digits, number_from_digits_after}
 use Rattle.asn1_unsigned.proofs.unsigned.read_u64.Given as goal
 
--- the octets that are left, behind the number so far, make the number of all of them
+-- the octets that are left, after the number so far, make the number of all of them
 abbrev pub invariant-loop-octet : goal.invariant-loop-octet
 invariant-loop-octet l = record {
   small : l.number < 2 ^ 64;

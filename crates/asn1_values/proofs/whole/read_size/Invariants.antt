@@ -3,7 +3,7 @@ use Rattle.std.specs.Int.Digits.{number_from_digits, number_from_digits_after}
 use Rattle.asn1_traits.specs.Integers.{unsigned_octets}
 use Rattle.asn1_values.proofs.whole.read_size.Given as goal
 
--- the octets that are left, behind the number so far, make the number of all of them
+-- the octets that are left, after the number so far, make the number of all of them
 abbrev pub invariant-loop-octet : goal.invariant-loop-octet
 invariant-loop-octet l = record {
   small : l.number < 2 ^ 128;

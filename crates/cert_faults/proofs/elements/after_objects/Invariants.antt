@@ -3,7 +3,7 @@ use Rattle.der_tree.specs.Tree.{Trees, all_octets}
 use Rattle.der_tree.specs.Shape.{AreObjects}
 use Rattle.cert_faults.proofs.elements.after_objects.Given as goal
 
--- What is left of the content stands after objects.
+-- What is left of the content comes after objects.
 abbrev pub invariant-loop-rest : goal.invariant-loop-rest
 invariant-loop-rest l = (ts : Trees) × AreObjects l.levels ts × (l.content ≡ all_octets ts ++ l.others)
 

@@ -1,4 +1,4 @@
--- One group more that an entry stands in, and one entry more.
+-- One group more that an entry is in, and one entry more.
 use Rattle.std.proofs.Common.{◌≡◌, ℕ, ◌+◌, [], length, take, map, get_or, Vec, Global, arith, subst}
 use Rattle.cert_graph.specs.declared.entries.Entry.{Entry}
 use Rattle.cert_graph.specs.Lists.{AreFilled, NamedSoFar}

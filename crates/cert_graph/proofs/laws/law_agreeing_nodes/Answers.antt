@@ -1,4 +1,4 @@
--- Clause by clause the same.
+-- Clause by clause, the graphs agree.
 use Rattle.cert_graph.specs.Nodes.{graph_of}
 use Rattle.cert_graph.proofs.NodeFacts.{fit_is_usable}
 use Rattle.cert_graph.proofs.Agreeing.{agreed_adequate, agreed_true}

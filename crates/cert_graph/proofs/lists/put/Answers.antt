@@ -1,4 +1,4 @@
--- Three ways out: no such list, the position stands there, or it is put at the end.
+-- Three ways out: no such list, the position is there, or it is put at the end.
 use Rattle.std.proofs.Common.{◌≡◌, ℕ, ◌<◌, List, length, map, set, Vec, Global, true, rules, sym, ap, ◌∙◌, subst}
 use Rattle.std.proofs.lemmas.List.{set-get_or}
 use Rattle.cert_graph.specs.Lists.{HasLast, IsPut}

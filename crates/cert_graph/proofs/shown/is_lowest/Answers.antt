@@ -1,4 +1,4 @@
--- A smaller position that would do ends the test; where there is none, it goes on.
+-- A smaller position that would do ends the test; if there is none, it goes on.
 use Rattle.std.proofs.Common.{◌≡◌, ◌≤◌, Bool, List, drop, ℕ, ◌+◌, ◌-◌, ◌<◌, length, get_or, true, cond, not, arith, sym, subst, ap, ◌∙◌, refl}
 use Rattle.std.proofs.lemmas.List.{drop_all}
 use Rattle.std.specs.Prelude.{◌↔◌}

@@ -1,4 +1,5 @@
--- The flights are halved until the two places meet: before them stands the last that begins at or before the row.
+-- The flights are halved until the two places meet: before them is the last that begins at or
+-- before the row.
 use Rattle.std.proofs.Common.{◌≡◌, ℕ, ◌+◌, ◌-◌, ◌/◌, ◌<◌, ◌≤◌, List, length, get_or, arith, sym, subst, inl, inr}
 use Rattle.std.proofs.lemmas.Bool.{cases_lt}
 use Rattle.std.proofs.lemmas.List.{get_or_default}

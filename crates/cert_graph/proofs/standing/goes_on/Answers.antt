@@ -1,4 +1,4 @@
--- The groups of what rose last, where nothing falls.
+-- The groups of what rose last, if nothing falls.
 use Rattle.std.proofs.Common.{◌≡◌, ℕ, ◌+◌, ◌-◌, ◌<◌, ◌∙◌, [], List, get_or, length, map, Vec, Global, ap, arith, sym}
 use Rattle.cert_graph.specs.declared.changes.Change.{Change}
 use Rattle.cert_graph.specs.Adequate.{changed}

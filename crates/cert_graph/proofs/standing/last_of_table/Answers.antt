@@ -1,4 +1,4 @@
--- One row more is compared with the one before it, which then becomes the same.
+-- One row more is compared with the one before it, which then becomes equal to it.
 use Rattle.std.proofs.Common.{◌≡◌, ◌∙◌, ◌<◌, ℕ, List, [], get_or, length, replicate, true, Vec, Global, ap, arith, subst, sym}
 use Rattle.std.proofs.lemmas.List.{take_all, with_items_is}
 use Rattle.cert_graph.specs.declared.changes.Change.{Change}

@@ -5,7 +5,7 @@ use Rattle.cert_model.specs.Range.{are_ascending}
 use Rattle.cert_model.specs.View.{attr_view}
 use Rattle.cert_model.proofs.ascending.are_attributes_ascending.Goals as goal
 
--- the first two of what is left ascend, so what is behind the first decides
+-- the first two of what is left ascend, so what comes after the first decides
 pub loop-i-preserved : goal.loop-i-preserved
 loop-i-preserved c =
     let xs = c.args.attributes.now in

@@ -1,4 +1,4 @@
--- Clause by clause the same.
+-- Clause by clause, the tables agree.
 use Rattle.cert_graph.specs.Nodes.{graph_of}
 use Rattle.cert_search.proofs.Carried.{agreed_exact, agreed_short}
 use Rattle.cert_search.proofs.laws.law_agreeing_tables.Goals as goal

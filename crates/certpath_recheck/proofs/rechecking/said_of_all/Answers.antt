@@ -1,4 +1,4 @@
--- Where the inputs end the run, and where all is read.
+-- If the inputs end the run, and if all is read.
 use Rattle.certpath_recheck.proofs.RecheckFacts.{run_uses, has_said}
 use Rattle.certpath_recheck.proofs.rechecking.said_of_all.Goals as goal
 

@@ -2,7 +2,7 @@ use Rattle.std.proofs.Common.{◌≡◌, ◌+◌, ◌≤◌, ◌++◌, length}
 use Rattle.std.specs.Int.Digits.{digits_of}
 use Rattle.asn1_core.proofs.octets.HeaderOctets.put_number.Given as goal
 
--- the digits of what is left, before those that stand, are all of them
+-- the digits of what is left, before those that are written, are all of them
 abbrev pub invariant-loop-left : goal.invariant-loop-left
 invariant-loop-left l = record {
   room : length (digits_of 256 l.left) + length l.self ≤ 15;

@@ -7,7 +7,8 @@ use Rattle.cert_framing.specs.Advance.{Advances}
 use Rattle.cert_framing.proofs.Bundles.{fed_sound, fed_part, fed_fault}
 use Rattle.cert_framing.proofs.bundle.Bundle.extend.Goals as goal
 
--- where `extend_from_slice` is no `Err`, the octets have grown by the piece, and the walk went over all of them
+-- if `extend_from_slice` is no `Err`, the octets have grown by the piece, and the walk went over
+-- all of them
 walked : (limit : ℕ) (octets piece new seen ends ends' : List ℕ) (from at : ℕ) (ok err found goes_on : Bool) → new ≡ cond ok (octets ++ piece) octets
     → ok ≡ not err → err ≡ false → seen ≡ new → found ≡ goes_on → Advances limit seen from ends ends' at found
     → (new ≡ octets ++ piece) × Advances limit (octets ++ piece) from ends ends' at goes_on

@@ -1,4 +1,4 @@
--- The least anchor is below the bound where some anchor is.
+-- The least anchor is below the bound if some anchor is.
 use Rattle.cert_graph.specs.Nodes.{LinksToAnchor}
 use Rattle.cert_graph.proofs.Looking.{below_iff}
 use Rattle.cert_graph.proofs.TableFacts.{refuted}

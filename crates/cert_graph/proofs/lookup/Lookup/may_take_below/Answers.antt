@@ -1,4 +1,4 @@
--- The least position is below the bound where some position is.
+-- The least position is below the bound if some position is.
 use Rattle.cert_graph.specs.Adequate.{row_of}
 use Rattle.cert_graph.specs.Nodes.{graph_of}
 use Rattle.cert_graph.specs.Steps.{MayTake}

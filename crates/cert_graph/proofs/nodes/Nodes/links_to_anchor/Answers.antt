@@ -1,4 +1,4 @@
--- What `any` answers over the groups.
+-- What `any` returns over the groups.
 use Rattle.std.proofs.Common.{rules, tests}
 use Rattle.std.proofs.lemmas.Iterator.{cases_from_any, YieldsList-from_slice}
 use Rattle.cert_graph.specs.Nodes.{HasAnchorLink, LinksToAnchor}

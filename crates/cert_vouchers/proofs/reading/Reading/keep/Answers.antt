@@ -8,7 +8,7 @@ returns-then-octets-saturating_sub-clause-refused c =
     let line = c.args.self.now.line in
     too_long c.args.self.now c.args.octets.now c.requires (omega (arith, length-append line.items c.args.octets.now, line.ok.0))
 
--- where `extend_from_slice` is no `Err`, the line has grown by the octets
+-- if `extend_from_slice` is no `Err`, the line has grown by the octets
 grown : (old octets new : List ℕ) (ok err : Bool) → new ≡ cond ok (old ++ octets) old → ok ≡ not err → err ≡ false → new ≡ old ++ octets
 grown old octets new ok err is negation fine = is ∙ cond-true ok (old ++ octets) old (negation ∙ ap not fine)
 

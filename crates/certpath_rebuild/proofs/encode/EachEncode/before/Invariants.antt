@@ -1,7 +1,7 @@
 use Rattle.std.proofs.Common.{◌≡◌, ◌++◌, ℕ, List, length, flat_map}
 use Rattle.certpath_rebuild.proofs.encode.EachEncode.before.Given as goal
 
--- what is taken, behind what is left of both
+-- what is taken, after what is left of both
 abbrev pub invariant-loop-part : goal.invariant-loop-part
 invariant-loop-part g l = (taken : List ℕ)
     × (l.whole ≡ l.front ++ taken)
