@@ -23,7 +23,6 @@ all_among P xs ys within all k d lt = let at = within (get_or ys k d) (member ys
 
 -- ---- positions
 
-
 pub one_ascent : (P : ℕ → Type 0) (ps qs : List ℕ) → ArePositions P ps → ArePositions P qs → ps ≡ qs
 one_ascent P ps qs h g = one_list (λ p. (p, 0)) P ps qs
     (record { exact = h.exact; ordered = λ i j d lt end. inl (AllPairs-from_increasing ps h.ascends i j d lt end) })
@@ -194,9 +193,9 @@ module _ (IsText : ℕ → List ℕ → Type 0) (one : (p : ℕ) (t u : List ℕ
               let same : x ≡ y = omega arith in
               let first : h.0 ≡ g.0 = one y h.0 g.0 (subst (λ z. IsText z h.0) same h.2) g.2 in
               let rest : h.1 ≡ g.1 = merged n xs ys (omega arith) (rest_ascends x xs up) (rest_ascends y ys down)
-                  (λ p t at none. a p t (later x xs p at) (λ there. elim (parted y ys p there) [ inl e ↦ let more = above_first x xs up p at in omega arith | inr more ↦ none more ]))
-                  (λ p t at none. b p t (later y ys p at) (λ there. elim (parted x xs p there) [ inl e ↦ let more = above_first y ys down p at in omega arith | inr more ↦ none more ]))
-                  h.1 g.1 h.3 g.3 in
+              (λ p t at none. a p t (later x xs p at) (λ there. elim (parted y ys p there) [ inl e ↦ let more = above_first x xs up p at in omega arith | inr more ↦ none more ]))
+              (λ p t at none. b p t (later y ys p at) (λ there. elim (parted x xs p there) [ inl e ↦ let more = above_first y ys down p at in omega arith | inr more ↦ none more ]))
+              h.1 g.1 h.3 g.3 in
               h.4 ∙ ap (λ t. t ++ h.1) first ∙ ap (λ t. g.0 ++ t) rest ∙ sym g.4
         ]
       ]

@@ -121,9 +121,12 @@ module _ (alloc : Global) (pairs : Vouchers) where
   no_link w h =
       let c = h.1 item in
       let same : c.0 ≡ issued_by_b = one_certificate (certificate issued_by_b) c.0 issued_by_b c.1 refl in
-      no_subject w (h.0, λ d. let l = h.1 d in let e = l.2 in
-          let mine : l.0 ≡ issued_by_b = one_certificate (certificate issued_by_b) l.0 issued_by_b l.1 refl in
-          (e.0, e.1, sym e.2.0.issuer ∙ ap (λ (c : Certificate). name_octets c.issuer) mine))
+      no_subject w (
+        h.0,
+        λ d. let l = h.1 d in let e = l.2 in
+            let mine : l.0 ≡ issued_by_b = one_certificate (certificate issued_by_b) l.0 issued_by_b l.1 refl in
+            (e.0, e.1, sym e.2.0.issuer ∙ ap (λ (c : Certificate). name_octets c.issuer) mine),
+      )
 
   no_edge : (v w : ℕ) → graph.Edge v w → ⊥
   no_edge zero w h = no_link w (h.1 item)

@@ -76,10 +76,10 @@ one_text_of_anchors k zero (x ∷ xs) text other h g = h ∙ sym g
 one_text_of_anchors k (suc left) (x ∷ xs) text other h g =
     of_either x.class h g
     (λ a b.
-        let line : a.0 ≡ b.0 = one_fault_line Anchors k x.octets a.0 b.0 a.2 b.2 in
-        let rest : a.1 ≡ b.1 = one_text_of_anchors (k + 1) left xs a.1 b.1 a.3 b.3 in
-        let both : a.0 ++ a.1 ≡ b.0 ++ b.1 = λ i. line i ++ rest i in
-        a.4 ∙ both ∙ sym b.4)
+    let line : a.0 ≡ b.0 = one_fault_line Anchors k x.octets a.0 b.0 a.2 b.2 in
+    let rest : a.1 ≡ b.1 = one_text_of_anchors (k + 1) left xs a.1 b.1 a.3 b.3 in
+    let both : a.0 ++ a.1 ≡ b.0 ++ b.1 = λ i. line i ++ rest i in
+    a.4 ∙ both ∙ sym b.4)
     (one_text_of_anchors (k + 1) (suc left) xs text other)
 
 one_text_of_faults : (items : List Item) (target : ℕ) (anchors : List Item) (text other : List ℕ) → AreFaultLines items target anchors text → AreFaultLines items target anchors other → text ≡ other

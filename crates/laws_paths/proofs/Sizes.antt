@@ -55,9 +55,9 @@ in_tbs : (c : Certificate) (e : Extension) → Contains c.extensions e → lengt
 unfolding tbs_certificate_octets
 in_tbs c e at =
     let pieces = version_octets c.version ∷ number_octets c.serial ∷ algorithm_octets c.signature
-        ∷ name_octets c.issuer ∷ validity_octets c.not_before c.not_after ∷ name_octets c.subject ∷ key_octets c.key
-        ∷ optional_octets (implicit_bits_octets 1) c.issuer_id ∷ optional_octets (implicit_bits_octets 2) c.subject_id
-        ∷ tagged_extensions_octets 3 c.extensions ∷ [] in
+    ∷ name_octets c.issuer ∷ validity_octets c.not_before c.not_after ∷ name_octets c.subject ∷ key_octets c.key
+    ∷ optional_octets (implicit_bits_octets 1) c.issuer_id ∷ optional_octets (implicit_bits_octets 2) c.subject_id
+    ∷ tagged_extensions_octets 3 c.extensions ∷ [] in
     le_trans (in_tagged c.extensions e at) (le_trans (in_pieces (tagged_extensions_octets 3 c.extensions) pieces (9, lit< tt, refl)) (in_element (in_sequence (concat pieces))))
 
 in_certificate : (c : Certificate) (e : Extension) → Contains c.extensions e → length e.value ≤ length (certificate_octets c)
