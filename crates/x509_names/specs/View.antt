@@ -1,5 +1,5 @@
 -- What the values of this crate's types are, as the records of `Fields`.
-use Rattle.std.specs.Prelude.{ℕ, Bool, List, option_map, map, bytes_eq, IfSome}
+use Rattle.std.specs.Prelude.{ℕ, Bool, List, option_map, map, bytes_eq, All, IfSome}
 use Rattle.std.specs.List.{flat_map}
 use Rattle.asn1_any.specs.CutViews.{HasOwnLength}
 use Rattle.asn1_any.specs.Views.{any_of}
@@ -24,6 +24,18 @@ HasCountedParameters a = IfSome a.parameters HasOwnLength
 -- the header of the value has the length of its content
 abbrev pub HasCountedValue : AttributeTypeAndValue → Type 0
 HasCountedValue a = HasOwnLength a.attr_value
+
+-- each attribute of the set does
+abbrev pub HasCountedValues : RelativeDistinguishedName → Type 0
+HasCountedValues s = All HasCountedValue s.set.items
+
+-- each attribute of each set does
+abbrev pub IsCountedName : X509Name → Type 0
+IsCountedName n = All HasCountedValues n.rdn_seq.items
+
+-- the algorithm's parameters do
+abbrev pub IsCountedKey : SubjectPublicKeyInfo → Type 0
+IsCountedKey k = HasCountedParameters k.algorithm
 
 abbrev pub attribute_view : AttributeTypeAndValue → Attribute
 attribute_view a = record { identifier = a.attr_type; value = any_of a.attr_value }

@@ -13,7 +13,7 @@ ghost use Rattle.x509_core.specs.Fronts.{TellsMissing, IsWindow, one_rest};
 ghost use Rattle.x509_names.specs.Names as grammar;
 ghost use Rattle.x509_names.specs.PublicKeys.{IsKeyValue};
 ghost use Rattle.x509_names.specs.Reading.{bits_at, key_in, key_at};
-ghost use Rattle.x509_names.specs.View.{bits_view, key_view, public_key_view};
+ghost use Rattle.x509_names.specs.View.{IsCountedKey, bits_view, key_view, public_key_view};
 
 use crate::algorithm::{AlgorithmIdentifier, next_algorithm};
 use crate::leaves::next_bits;
@@ -93,6 +93,7 @@ pub fn key_of<'a>(
 ) -> Result<SubjectPublicKeyInfo<'a>, Refusal<X509Error>>
     requires { attempts count.old + 2 * length element.any.content.now < 2 ^ 128 }
     ensures read { Gives key_view result (key_in (piece_of element.entry)) }
+    ensures counted { IfOk result IsCountedKey }
     ensures least { IfOk result (λ _. attempts count.old + 3 ≤ attempts count.new) }
     ensures grows { attempts count.old ≤ attempts count.new }
     ensures most { attempts count.new ≤ attempts count.old + 2 * length element.entry.any.content.now }
@@ -117,6 +118,7 @@ pub fn next_key<'a>(
 ) -> Result<SubjectPublicKeyInfo<'a>, Refusal<X509Error>>
     requires { attempts count.old + 2 * length parts.old.octets < 2 ^ 128 }
     ensures read { Gives (λ v. (key_view v, parts.new.octets)) result (key_at parts.old.octets) }
+    ensures counted { IfOk result IsCountedKey }
     ensures elements { IfOk result (λ _. parts.old.elements ≡ parts.new.elements + 1) }
     ensures least { IfOk result (λ _. attempts count.old + 3 ≤ attempts count.new) }
     ensures grows { attempts count.old ≤ attempts count.new }
@@ -153,6 +155,7 @@ impl<'a> FromDer<'a, X509Error> for SubjectPublicKeyInfo<'a> {
         ensures found { IfOk result (λ r. grammar.SubjectPublicKeyInfo bytes.now (key_view r.1) r.0.now) }
         ensures only { (v : Key) (rest : List ℕ) → grammar.SubjectPublicKeyInfo bytes.now v rest
             → ElseMemory result (λ r. (key_view r.1 ≡ v) × (r.0.now ≡ rest)) }
+        ensures counted { IfOk result (λ r. IsCountedKey r.1) }
     {
         key_at_front(alloc, bytes)
     }
@@ -160,6 +163,7 @@ impl<'a> FromDer<'a, X509Error> for SubjectPublicKeyInfo<'a> {
 
 fn key_at_front<'a>(alloc: Global, i: &'a [u8]) -> X509Result<'a, SubjectPublicKeyInfo<'a>>
     ensures exact { Gives (λ r. (key_view r.1, r.0.now)) result (key_at i.now) }
+    ensures counted { IfOk result (λ r. IsCountedKey r.1) }
     ensures missing { TellsMissing i.now result }
 {
     let mut count = HeaderCount::new();

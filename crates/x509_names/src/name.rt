@@ -1,6 +1,6 @@
 //! `X509Name` (RFC 5280, 4.1.2.4).
 
-ghost use Rattle.std.specs.Prelude.{◌≡◌, ◌+◌, ◌*◌, ◌^◌, ◌<◌, ◌≤◌, ◌++◌, ℕ, List, [], length, IfOk, map};
+ghost use Rattle.std.specs.Prelude.{◌≡◌, ◌+◌, ◌*◌, ◌^◌, ◌<◌, ◌≤◌, ◌++◌, ℕ, List, [], length, All, IfOk, map};
 ghost use Rattle.std.specs.Iterator.{Drains, IsFinite};
 ghost use Rattle.std.specs.List.{filter};
 ghost use Rattle.std.specs.Slice.Iter.{iter_rest};
@@ -17,7 +17,7 @@ ghost use Rattle.x509_core.specs.Fronts.{TellsMissing, IsWindow, one_rest};
 ghost use Rattle.x509_objects.specs.Identifiers.{common_name_id, country_id, organization_id, organizational_unit_id, state_or_province_id, locality_id, email_id};
 ghost use Rattle.x509_names.specs.Names as grammar;
 ghost use Rattle.x509_names.specs.Reading.{relative_name_at, name_in, name_at};
-ghost use Rattle.x509_names.specs.View.{set_view, name_view, attributes_in, attributes_of_set, has_type};
+ghost use Rattle.x509_names.specs.View.{HasCountedValues, IsCountedName, set_view, name_view, attributes_in, attributes_of_set, has_type};
 
 use crate::attributes::{Attributes, AttributesOf};
 use crate::relative::{RelativeDistinguishedName, relative_name_of};
@@ -190,6 +190,7 @@ fn relative_names_of<'a>(
 ) -> Result<Vec<RelativeDistinguishedName<'a>>, Refusal<X509Error>>
     requires { attempts count.old + 2 * length parts.old.octets < 2 ^ 128 }
     ensures read { ManyGive (λ v. map set_view v.items) result (many_of relative_name_at parts.old.octets) parts.new.octets }
+    ensures counted { IfOk result (λ v. All HasCountedValues v.items) }
     ensures grows { attempts count.old ≤ attempts count.new }
     ensures most { attempts count.new ≤ attempts count.old + 2 * length parts.old.octets }
     ensures shorter { length parts.new.octets ≤ length parts.old.octets }
@@ -219,6 +220,7 @@ pub fn name_of<'a>(
 ) -> Result<X509Name<'a>, Refusal<X509Error>>
     requires { attempts count.old + 3 * length element.any.content.now < 2 ^ 128 }
     ensures read { Gives name_view result (name_in (piece_of element.entry)) }
+    ensures counted { IfOk result IsCountedName }
     ensures grows { attempts count.old ≤ attempts count.new }
     ensures most { attempts count.new ≤ attempts count.old + 3 * length element.entry.any.content.now }
 {
@@ -237,6 +239,7 @@ pub fn next_name<'a>(
 ) -> Result<X509Name<'a>, Refusal<X509Error>>
     requires { attempts count.old + 3 * length parts.old.octets < 2 ^ 128 }
     ensures read { Gives (λ v. (name_view v, parts.new.octets)) result (name_at parts.old.octets) }
+    ensures counted { IfOk result IsCountedName }
     ensures elements { IfOk result (λ _. parts.old.elements ≡ parts.new.elements + 1) }
     ensures grows { attempts count.old ≤ attempts count.new }
     ensures ends { length parts.new.octets ≤ length parts.old.octets }
@@ -272,6 +275,7 @@ impl<'a> FromDer<'a, X509Error> for X509Name<'a> {
         ensures found { IfOk result (λ r. grammar.X509Name bytes.now (name_view r.1) r.0.now) }
         ensures only { (v : Name) (rest : List ℕ) → grammar.X509Name bytes.now v rest
             → ElseMemory result (λ r. (name_view r.1 ≡ v) × (r.0.now ≡ rest)) }
+        ensures counted { IfOk result (λ r. IsCountedName r.1) }
     {
         name_at_front(alloc, bytes)
     }
@@ -279,6 +283,7 @@ impl<'a> FromDer<'a, X509Error> for X509Name<'a> {
 
 fn name_at_front<'a>(alloc: Global, i: &'a [u8]) -> X509Result<'a, X509Name<'a>>
     ensures exact { Gives (λ r. (name_view r.1, r.0.now)) result (name_at i.now) }
+    ensures counted { IfOk result (λ r. IsCountedName r.1) }
     ensures missing { TellsMissing i.now result }
 {
     let mut count = HeaderCount::new();

@@ -1,6 +1,6 @@
 //! `RelativeDistinguishedName` (RFC 5280, 4.1.2.4).
 
-ghost use Rattle.std.specs.Prelude.{◌≡◌, ◌+◌, ◌*◌, ◌^◌, ◌<◌, ◌≤◌, ℕ, List, length, IfOk, map};
+ghost use Rattle.std.specs.Prelude.{◌≡◌, ◌+◌, ◌*◌, ◌^◌, ◌<◌, ◌≤◌, ℕ, List, length, All, IfOk, map};
 ghost use Rattle.std.specs.Iterator.{Drains, IsFinite};
 ghost use Rattle.std.specs.Slice.Iter.{iter_rest};
 ghost use Rattle.asn1_core.specs.Counts.{attempts};
@@ -15,7 +15,7 @@ ghost use Rattle.x509_names.specs.Fields.{Attribute};
 ghost use Rattle.x509_core.specs.Fronts.{TellsMissing, one_rest};
 ghost use Rattle.x509_names.specs.Names as grammar;
 ghost use Rattle.x509_names.specs.Reading.{attribute_at, relative_name_in, relative_name_at};
-ghost use Rattle.x509_names.specs.View.{attribute_view, set_view};
+ghost use Rattle.x509_names.specs.View.{HasCountedValue, HasCountedValues, attribute_view, set_view};
 
 use crate::attribute::{AttributeTypeAndValue, attribute_of};
 use asn1_any::Element;
@@ -94,6 +94,7 @@ fn attributes_of<'a>(
 ) -> Result<Vec<AttributeTypeAndValue<'a>>, Refusal<X509Error>>
     requires { attempts count.old + length parts.old.octets < 2 ^ 128 }
     ensures read { ManyGive (λ v. map attribute_view v.items) result (many_of attribute_at parts.old.octets) parts.new.octets }
+    ensures counted { IfOk result (λ v. All HasCountedValue v.items) }
     ensures grows { attempts count.old ≤ attempts count.new }
     ensures most { attempts count.new ≤ attempts count.old + length parts.old.octets }
     ensures shorter { length parts.new.octets ≤ length parts.old.octets }
@@ -124,6 +125,7 @@ pub fn relative_name_of<'a>(
 ) -> Result<RelativeDistinguishedName<'a>, Refusal<X509Error>>
     requires { attempts count.old + 2 * length element.any.content.now < 2 ^ 128 }
     ensures read { Gives set_view result (relative_name_in (any_of element.entry.any)) }
+    ensures counted { IfOk result HasCountedValues }
     ensures grows { attempts count.old ≤ attempts count.new }
     ensures most { attempts count.new ≤ attempts count.old + 2 * length element.entry.any.content.now }
 {
@@ -160,6 +162,7 @@ impl<'a> FromDer<'a, X509Error> for RelativeDistinguishedName<'a> {
         ensures found { IfOk result (λ r. grammar.RelativeDistinguishedName bytes.now (set_view r.1) r.0.now) }
         ensures only { (v : List Attribute) (rest : List ℕ) → grammar.RelativeDistinguishedName bytes.now v rest
             → ElseMemory result (λ r. (set_view r.1 ≡ v) × (r.0.now ≡ rest)) }
+        ensures counted { IfOk result (λ r. HasCountedValues r.1) }
     {
         relative_name_at_front(alloc, bytes)
     }
@@ -170,6 +173,7 @@ fn relative_name_at_front<'a>(
     i: &'a [u8],
 ) -> X509Result<'a, RelativeDistinguishedName<'a>>
     ensures exact { Gives (λ r. (set_view r.1, r.0.now)) result (relative_name_at i.now) }
+    ensures counted { IfOk result (λ r. HasCountedValues r.1) }
     ensures missing { TellsMissing i.now result }
 {
     let mut count = HeaderCount::new();

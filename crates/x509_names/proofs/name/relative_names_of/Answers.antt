@@ -1,10 +1,12 @@
-use Rattle.std.proofs.Common.{◌≡◌, ◌∙◌, sym, map, arith, Some, None}
+use Rattle.std.proofs.Common.{◌≡◌, ◌∙◌, sym, subst, map, arith, Some, None}
+use Rattle.std.specs.Prelude.{All}
 use Rattle.std.proofs.lemmas.List.{map-append}
+use Rattle.std.proofs.lemmas.List.Elements.{All-push}
 use Rattle.asn1_any.specs.CutViews.{piece_of}
 use Rattle.x509_core.specs.Reading.{first_piece}
 use Rattle.x509_core.proofs.Many.{next_more, next_stops, next_ends, refused_by}
 use Rattle.x509_names.specs.Reading.{relative_name_in}
-use Rattle.x509_names.specs.View.{set_view}
+use Rattle.x509_names.specs.View.{HasCountedValues, set_view}
 use Rattle.x509_names.proofs.name.relative_names_of.Goals as goal
 
 pub loop-element-preserved : goal.loop-element-preserved
@@ -18,6 +20,7 @@ loop-element-preserved c =
     let step = next_more (λ p. relative_name_in p.element) (map set_view c.loop-element.sets.items) c.loop-element.parts.octets c.advance.new.self.octets e (set_view c.in-Ok.set) front c.advance.ensures.read c.in-Ok.ensures.read (omega (arith, shorter, content)) in
     record {
       read = rw (c.in_ok-push-in-Ok.ensures.items, map-append) (sym step ∙ c.loop-element.invariant.read);
+      counted = subst (All HasCountedValues) (sym c.in_ok-push-in-Ok.ensures.items) (All-push HasCountedValues c.loop-element.sets.items _ c.loop-element.invariant.counted c.in-Ok.ensures.counted);
       grows = omega (arith, grows, c.loop-element.invariant.grows);
       shorter = omega (arith, shorter, c.loop-element.invariant.shorter);
       most = omega (arith, most, shorter, content, c.loop-element.invariant.most);
@@ -34,6 +37,7 @@ returns-in_default-refusal c =
     let shorter = c.in-Some.ensures.shorter in
     record {
       read = sym c.loop-element.invariant.read ∙ stop;
+      counted = c.loop-element.invariant.counted;
       grows = omega (arith, grows, c.loop-element.invariant.grows);
       shorter = omega (arith, c.loop-element.invariant.shorter);
       most = omega (arith, most, content, shorter, c.loop-element.invariant.most);
