@@ -1,15 +1,15 @@
 -- Lists in order are determined by what they contain: positions, ranges of positions, and texts of positions.
-use Rattle.std.specs.Prelude.{◌↔◌, ◌⊎◌}
-use Rattle.std.proofs.Common.{◌≡◌, ◌≢◌, ◌∙◌, refl, ap, sym, subst, zero, suc, pred, ℕ, ◌+◌, ◌<◌, ◌≤◌, List, [], ◌∷◌, ◌++◌, length, arith, get_or, inl, inr}
+use Rattle.std.specs.Prelude.{◌⊎◌}
+use Rattle.std.proofs.Common.{◌≡◌, ◌∙◌, refl, ap, sym, subst, zero, suc, pred, ℕ, ◌+◌, ◌<◌, ◌≤◌, List, [], ◌∷◌, ◌++◌, length, arith, get_or, inl, inr}
 use Rattle.std.specs.List.{All, AllPairs, Contains}
 use Rattle.std.specs.List.Sorted.{IsStrictlyIncreasing}
 use Rattle.std.proofs.lemmas.Bool.{cases_lt}
 use Rattle.std.proofs.lemmas.List.{get_or_default}
 use Rattle.std.proofs.lemmas.List.Kept.{AllPairs-from_increasing}
-use Rattle.cert_reasons.specs.Order.{IsBefore, AreAll}
+use Rattle.cert_reasons.specs.Order.{AreAll}
 use Rattle.cert_reasons.proofs.Ordered.{one_list}
 use Rattle.certpath_why.specs.declared.ranges.Range.{Range}
-use Rattle.certpath_why.specs.Ranges.{IsInRanges, AreRanges}
+use Rattle.certpath_why.specs.Ranges.{AreRanges}
 use Rattle.certpath_why.specs.Reached.{ArePositions}
 use Rattle.certpath_why.specs.Why.{AreTexts}
 

@@ -119,6 +119,7 @@ abbrev anchor_line : List ℕ
 anchor_line = fault_line Anchors 0 missing_fault
 
 anchor_faults : (target : ℕ) → AreFaultLines [] target (no_parts_item ∷ []) anchor_line
+unfolding place_text clause_text digits
 anchor_faults target = record {
   own = [];
   own_is = refl;

@@ -190,9 +190,6 @@ module _ (alloc : Global) (pairs : Vouchers) where
   fails : (reason : Unlinked) (w : ℕ) → FailsTo r items item issued_by_b reason w → ⊥
   fails reason w h = no_subject w (h.0, λ d. let e = h.1 d in (e.0, e.1, e.2.0))
 
-  no_root : {P : Item → Type 0} (a : ℕ) → (a < length {X = Item} []) × ((d : Item) → P d) → ⊥
-  no_root a h = let lt = h.0 in omega (arith, lt)
-
   links : TellsLinks r items [] 0 item issued_by_b missing
   links = record {
     issuers = [];

@@ -1,13 +1,12 @@
 -- What is demanded of a certificate has one text, and the permits of one demand vouch for the same and process the same.
 use Rattle.std.specs.Prelude.{◌↔◌, ◌⊎◌}
-use Rattle.std.proofs.Common.{◌≡◌, ◌∙◌, refl, ap, sym, ℕ, Bool, true, false, IsTrue, IsSomeAnd, List, [], ◌∷◌, ◌++◌, inl, inr, Option, Some, None}
+use Rattle.std.proofs.Common.{◌≡◌, ◌∙◌, refl, ap, sym, ℕ, Bool, true, false, IsTrue, IsSomeAnd, List, [], ◌++◌, inl, inr, Option, Some, None}
 use Rattle.std.specs.Borrow.{Bor}
 use Rattle.std.specs.BTreeSet as sorted
 use Rattle.std.specs.Cmp.Lexicographic.{slice_cmp}
 use Rattle.std.specs.Ordering.{nat_cmp}
 use Rattle.cert_model.specs.Fields.{Certificate, Extension}
 use Rattle.cert_judge.specs.Revoking.{Item}
-use Rattle.cert_judge.specs.Vouching.{Vouching}
 use Rattle.cert_purpose.specs.Purposes.{extended_key_usage}
 use Rattle.cert_serving.specs.Demanding.{Demanded, AllowsIt, ServesIt}
 use Rattle.cert_serving.specs.Refusing.{are_permitted, are_processed}

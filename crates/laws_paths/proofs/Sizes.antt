@@ -1,9 +1,8 @@
 -- A certificate's extensions are short: their values are among its octets.
-use Rattle.std.proofs.Common.{◌≡◌, subst, zero, suc, ℕ, ◌+◌, ◌^◌, ◌<◌, ◌≤◌, List, [], ◌∷◌, ◌++◌, length, length-append, arith, flat_map, refl, lit<, true, false, le_trans, Contains}
+use Rattle.std.proofs.Common.{subst, zero, suc, ℕ, ◌^◌, ◌<◌, ◌≤◌, List, [], ◌∷◌, ◌++◌, length, length-append, arith, flat_map, refl, lit<, true, false, le_trans, Contains}
 use Rattle.std.specs.List.{concat}
 use Rattle.asn1_core.specs.Elements.{Element, element_octets, head_of_element}
 use Rattle.asn1_core.specs.Strict.{strict_header}
-use Rattle.der_tree.specs.Tree.{octets}
 use Rattle.der_tree.proofs.Leveled.{object_to}
 use Rattle.cert_model.specs.Class.{IsCertificateItem}
 use Rattle.cert_model.specs.Fields.{Certificate, Extension}
