@@ -1,13 +1,11 @@
 -- The reports on a target that isn't there are right.
-use Rattle.std.proofs.Common.{◌≡◌, refl, ℕ, true, List, [], ◌∷◌, ◌++◌, arith, inl, inr, zero, suc, lit<, Some, None}
+use Rattle.std.proofs.Common.{◌≡◌, refl, ℕ, true, List, [], ◌∷◌, ◌++◌, arith, inl, inr, zero, suc, Some, None}
 use Rattle.std.specs.Fmt.{digits}
 use Rattle.std.proofs.lemmas.List.Elements.{All-from_recursion}
 use Rattle.cert_faults.proofs.Faults.{certificate_refused, list_refused}
 use Rattle.cert_faults.specs.declared.places.Expected.TheVariants.{Sequence}
 use Rattle.cert_faults.specs.declared.places.Field.TheVariants.{TbsCertificate, TbsCertList}
 use Rattle.cert_faults.specs.Steps.{missing, whole}
-use Rattle.cert_framing.specs.Held.{Framed}
-use Rattle.cert_framing.specs.declared.ending.End.TheVariants.{Clean}
 use Rattle.cert_graph.specs.declared.answer.Answer.TheVariants.{NoTarget}
 use Rattle.cert_judge.specs.Classed.{AreClassed}
 use Rattle.cert_judge.specs.ItemGraph.{graph_of_items}

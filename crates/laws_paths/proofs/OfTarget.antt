@@ -1,9 +1,7 @@
 -- The report on a certificate that is alone: none of its issuer's name is there.
-use Rattle.std.specs.Prelude.{◌⊎◌}
-use Rattle.std.proofs.Common.{◌≡◌, ◌∙◌, refl, ap, sym, subst, zero, suc, ℕ, ◌+◌, ◌<◌, true, List, [], ◌∷◌, ◌++◌, length, arith, inl, inr, lit<, Option, Some, None, Global}
+use Rattle.std.proofs.Common.{◌≡◌, ◌∙◌, refl, ap, sym, subst, zero, suc, ℕ, ◌<◌, List, [], ◌∷◌, ◌++◌, arith, inl, inr, lit<, None, Global}
 use Rattle.std.proofs.lemmas.List.{append-nil}
 use Rattle.std.proofs.lemmas.List.Elements.{All-from_recursion}
-use Rattle.std.specs.List.{Contains}
 use Rattle.cert_graph.specs.Adequate.{HasAnchored, HasAnchoredAt, IsAdequate, IsSuccessor, at_row, row_of}
 use Rattle.cert_graph.specs.Graph.{Graph}
 use Rattle.cert_graph.specs.Reach.{Takes}
@@ -16,7 +14,7 @@ use Rattle.cert_graph.proofs.Tails.{fixed_takes, tail_from_chain}
 use Rattle.cert_graph.proofs.True.{adequate_is_true}
 use Rattle.cert_judge.specs.Classed.{AreClassed}
 use Rattle.cert_judge.specs.Examples.{certificate_item}
-use Rattle.cert_judge.specs.ItemGraph.{IsCertificateWith, IsLink, graph_of_items}
+use Rattle.cert_judge.specs.ItemGraph.{graph_of_items}
 use Rattle.cert_judge.specs.Items.{rules_by}
 use Rattle.cert_judge.specs.Revoking.{Item, JudgingContext}
 use Rattle.cert_judge.proofs.ExampleLists.{target_usable}
@@ -27,7 +25,6 @@ use Rattle.cert_model.specs.Fields.{Certificate}
 use Rattle.cert_model.specs.Octets.{attribute_octets, certificate_octets, name_octets, relative_name_octets}
 use Rattle.cert_reasons.specs.Issuers.{HasIssuerReason, issuer_order}
 use Rattle.cert_reasons.specs.Order.{AreAll}
-use Rattle.cert_reasons.specs.declared.issuers.NoIssuer.{NoIssuer}
 use Rattle.cert_reasons.specs.declared.issuers.NoIssuer.TheVariants as issuing
 use Rattle.cert_reasons.specs.declared.links.Unlinked.{Unlinked}
 use Rattle.cert_reasons.proofs.Certain.{all_of_usable}

@@ -1,6 +1,6 @@
 -- Two texts of what prevents a path are equal: the lines of links, of certificates, of lists, and the whole.
 use Rattle.std.specs.Prelude.{◌↔◌, ◌⊎◌}
-use Rattle.std.proofs.Common.{◌≡◌, ◌∙◌, refl, ap, sym, subst, zero, suc, ℕ, ◌+◌, ◌<◌, ◌≤◌, Bool, if◌then◌else◌, nat_eq, List, [], ◌∷◌, ◌++◌, length, flat_map, arith, get_or, le_refl, inl, inr, All, Contains, Option, Some, None}
+use Rattle.std.proofs.Common.{◌≡◌, ◌∙◌, refl, ap, sym, subst, ℕ, ◌+◌, ◌<◌, ◌≤◌, Bool, if◌then◌else◌, nat_eq, List, [], ◌∷◌, ◌++◌, length, flat_map, arith, get_or, le_refl, inl, inr, Contains, Option, Some, None}
 use Rattle.cert_graph.specs.Adequate.{at_row, row_of, rows_of}
 use Rattle.cert_graph.specs.Graph.{Graph}
 use Rattle.cert_graph.specs.LawsOfNodes.{SayTheSame}
@@ -18,7 +18,7 @@ use Rattle.cert_model.specs.Fields.{Certificate, RevocationList}
 use Rattle.cert_model.specs.Octets.{name_octets}
 use Rattle.cert_reasons.specs.Certificates.{HasReason, order_of}
 use Rattle.cert_reasons.specs.Issuers.{HasIssuerReason, issuer_order}
-use Rattle.cert_reasons.specs.Lists.{HasListReason, HasReasonAmong, list_order}
+use Rattle.cert_reasons.specs.Lists.{HasReasonAmong, list_order}
 use Rattle.cert_reasons.specs.declared.issuers.NoIssuer.{NoIssuer}
 use Rattle.cert_reasons.specs.declared.links.Unlinked.{Unlinked}
 use Rattle.cert_reasons.specs.declared.links.Unlinked.TheVariants as links
