@@ -1,4 +1,5 @@
 mod Agreeing
+mod DigitFacts
 mod LineFacts
 mod PairFacts
 mod Progress

@@ -3,6 +3,7 @@
 //! Signatures are verified elsewhere; a pair records that the signature of an item verified with a key.
 #![tactic(auto)]
 
+mod digits;
 mod keys;
 pub mod laws;
 mod lines;

@@ -1,20 +1,9 @@
 //! The pair of a line.
 
-ghost use Rattle.std.specs.Prelude.{◌≡◌, ℕ, List, Ok, IfSome, IsSomeAnd};
-ghost use Rattle.hex.specs.Hex.{decode_sized};
+ghost use Rattle.std.specs.Prelude.{◌≡◌, ℕ, List, IfSome, IsSomeAnd};
 ghost use Rattle.cert_vouchers.specs.VoucherFile.{TellsPair};
 
-use hex::FromHex;
-
-/// How many hex digits a digest has.
-const DIGITS: usize = 64;
-
-fn digest_of(digits: &[u8]) -> Option<[u8; 32]>
-    ensures found { IfSome result (λ digest. decode_sized digits.now 32 ≡ Ok digest) }
-    ensures only { (digest : List ℕ) → decode_sized digits.now 32 ≡ Ok digest → IsSomeAnd result (λ r. r ≡ digest) }
-{
-    <[u8; 32] as FromHex>::from_hex(digits).ok()
-}
+use crate::digits::{DIGITS, digest_of};
 
 /// The digests of a key and of an item, if the line holds them.
 pub(crate) fn pair_of(line: &[u8]) -> Option<([u8; 32], [u8; 32])>

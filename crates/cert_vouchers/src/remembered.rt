@@ -10,10 +10,22 @@ use cert_judge::Vouch;
 use sha2::{Digest, Sha256};
 use std::alloc::{AllocError, Global};
 use std::cell::RefCell;
+use std::cmp::Ordering;
+
+/// The last eight octets of a text as a number; 0 if it has fewer. Of a certificate or a list they
+/// are the end of its signature, of a key element the end of the key, so they seldom are equal.
+fn tail_of(text: &[u8]) -> u64 {
+    match text {
+        [.., a, b, c, d, e, f, g, h] => u64::from_le_bytes([*a, *b, *c, *d, *e, *f, *g, *h]),
+        _ => 0,
+    }
+}
 
 /// A text, and its digest once that was computed.
 #[derive(Drop)]
 struct Known<'a> {
+    /// What `tail_of` returns of the text.
+    tail: u64,
     text: &'a [u8],
     digest: Option<[u8; 32]>,
     /// The place of the text that was asked for after it.
@@ -31,11 +43,24 @@ impl<'a> Known<'a> {
         }
         let digest = Sha256::digest(self.text);
         *self = Known {
+            tail: self.tail,
             text: self.text,
             digest: Some(digest),
             next: self.next,
         };
         digest
+    }
+
+    /// The order of the text and another one: that of their tails, which reads neither, and that of
+    /// their octets if the tails are equal.
+    fn order(&self, tail: u64, text: &[u8]) -> Ordering {
+        if self.tail != tail {
+            return self.tail.cmp(&tail);
+        }
+        if self.text == text {
+            return Ordering::Equal;
+        }
+        self.text.cmp(&text)
     }
 }
 
@@ -57,9 +82,21 @@ impl<'a> Memory<'a> {
         }
     }
 
-    /// One text more, unless memory for it is refused.
+    /// Returns whether the last one is this text.
+    fn ends_with(&self, text: &[u8]) -> bool {
+        match self.known.last() {
+            Some(known) => known.text == text,
+            None => false,
+        }
+    }
+
+    /// One text more, unless it is the last one or memory for it is refused.
     fn add(&mut self, text: &'a [u8]) {
+        if self.ends_with(text) {
+            return;
+        }
         let known = Known {
+            tail: tail_of(text),
             text,
             digest: None,
             next: 0,
@@ -72,7 +109,7 @@ impl<'a> Memory<'a> {
     /// Sorts the texts, unless they are, and keeps one of equal ones.
     fn sort(&mut self) {
         if !self.is_sorted {
-            self.known.sort_unstable_by(|a, b| a.text.cmp(&b.text));
+            self.known.sort_unstable_by(|a, b| a.order(b.tail, b.text));
             self.known.dedup_by_key(|known| known.text);
             self.is_sorted = true;
         }
@@ -125,7 +162,8 @@ impl<'a> Memory<'a> {
     fn look_up(&mut self, text: &[u8]) -> Option<[u8; 32]>
         ensures { IfSome result (λ d. d ≡ sha256 text.now) }
     {
-        let found = self.known.binary_search_by(|known| known.text.cmp(&text));
+        let tail = tail_of(text);
+        let found = self.known.binary_search_by(|known| known.order(tail, text));
         let place = found.ok()?;
         self.step_to(place);
         self.digest_at(place, text)
@@ -159,11 +197,12 @@ fn digest_in(memory: &RefCell<Memory<'_>>, text: &[u8]) -> [u8; 32]
 /// Vouchers with a memory: they vouch for what the vouchers do, and hash an expected text at most
 /// once, once it is asked for, if all texts are expected before the first question.
 ///
-/// The first question after a text was expected sorts all expected texts, compared whole. Each
-/// question takes as many comparisons of texts as a look-up in a sorted map, and two if it goes
-/// over the same items as before, in their order. A text that wasn't expected is hashed each time;
-/// nothing else depends on which texts were expected. `vouched_by_each` asks by each item's digest
-/// if its keys are different, and otherwise for each pair of a key and a chosen item.
+/// The first question after a text was expected sorts all expected texts. Each question takes as
+/// many comparisons of texts as a look-up in a sorted map, and two if it goes over the same items as
+/// before, in their order. Texts are compared by their last eight octets, and whole if these are
+/// equal. A text that wasn't expected is hashed each time; nothing else depends on which texts were
+/// expected. `vouched_by_each` asks by each item's digest if its keys are different, and otherwise
+/// for each pair of a key and a chosen item.
 #[derive(Drop)]
 pub struct RememberedVouchers<'a> {
     vouchers: &'a Vouchers,
