@@ -1,5 +1,5 @@
 -- Lists in order are determined by what they contain: positions, ranges of positions, and texts of positions.
-use Rattle.std.specs.Prelude.{◌⊎◌}
+use Rattle.std.specs.Prelude.{◌↔◌, ◌⊎◌}
 use Rattle.std.proofs.Common.{◌≡◌, ◌∙◌, refl, ap, sym, subst, zero, suc, pred, ℕ, ◌+◌, ◌<◌, ◌≤◌, List, [], ◌∷◌, ◌++◌, length, arith, get_or, inl, inr}
 use Rattle.std.specs.List.{All, AllPairs, Contains}
 use Rattle.std.specs.List.Sorted.{IsStrictlyIncreasing}
@@ -8,8 +8,6 @@ use Rattle.std.proofs.lemmas.List.{get_or_default}
 use Rattle.std.proofs.lemmas.List.Kept.{AllPairs-from_increasing}
 use Rattle.cert_reasons.specs.Order.{AreAll}
 use Rattle.cert_reasons.proofs.Ordered.{one_list}
-use Rattle.certpath_why.specs.declared.ranges.Range.{Range}
-use Rattle.certpath_why.specs.Ranges.{AreRanges}
 use Rattle.certpath_why.specs.Reached.{ArePositions}
 use Rattle.certpath_why.specs.Why.{AreTexts}
 
@@ -30,90 +28,105 @@ one_ascent P ps qs h g = one_list (λ p. (p, 0)) P ps qs
 
 -- ---- ranges
 
--- two ranges of a list are one, or are apart
-one_or_apart : (rs : List Range) → AllPairs (λ (r s : Range). r.last + 1 < s.first) rs → (r s : Range) → Contains rs r → Contains rs s → (r ≡ s) ⊎ ((r.last + 1 < s.first) ⊎ (s.last + 1 < r.first))
-one_or_apart rs apart r s a b =
-    let i = a.0 in
-    let j = b.0 in
-    let before : i < j → r.last + 1 < s.first = λ lt. subst (λ (x : Range). x.last + 1 < s.first) a.2 (subst (λ (y : Range). (get_or rs i r).last + 1 < y.first) (sym (get_or_default rs j s r b.1) ∙ b.2) (apart i j r lt b.1)) in
-    let after : j < i → s.last + 1 < r.first = λ lt. subst (λ (x : Range). x.last + 1 < r.first) b.2 (subst (λ (y : Range). (get_or rs j s).last + 1 < y.first) (sym (get_or_default rs i r s a.1) ∙ a.2) (apart j i s lt a.1)) in
-    elim (cases_lt i j) [
-      | inl lt ↦ inr (inl (before lt))
-      | inr le ↦ elim (cases_lt j i) [
-        | inl lt ↦ inr (inr (after lt))
-        | inr ge ↦ let same : i ≡ j = omega arith in inl (sym a.2 ∙ get_or_default rs i r s a.1 ∙ subst (λ n. get_or rs i s ≡ get_or rs n s) same refl ∙ b.2)
-      ]
-    ]
+-- a list without elements
+pub empty_list : {X : Type 0} (xs : List X) → ((x : X) → Contains xs x → ⊥) → xs ≡ []
+empty_list [] none = refl
+empty_list (x ∷ xs) none = absurd (none x (0, (let lt : 0 < length (x ∷ xs) = omega arith in lt), refl))
 
-module _ (P : ℕ → Type 0) (rs : List Range) (h : AreRanges P rs) (r : Range) (at : Contains rs r) where
-  inside : (p : ℕ) → r.first ≤ p → p ≤ r.last → P p
-  inside p low high = (h.exact p).0 (r, at, low, high)
+-- P holds exactly from the first to the last position of each element, and a position without it is between two
+pub record Covers {X : Type 0} (first last : X → ℕ) (P : ℕ → Type 0) (rs : List X) : Type 0 where
+  pub exact : (p : ℕ) → ((r : X) × Contains rs r × (first r ≤ p) × (p ≤ last r)) ↔ P p
+  pub apart : AllPairs (λ r s. last r + 1 < first s) rs
+  pub none_empty : (r : X) → Contains rs r → first r ≤ last r
 
-  -- nothing right after a range has the property
-  ends : P (r.last + 1) → ⊥
-  ends p =
-      let i = (h.exact (r.last + 1)).1 p in
-      let s = i.0 in
-      let low : s.first ≤ r.last + 1 = i.2 in
-      let high : r.last + 1 ≤ s.last = i.3 in
-      elim (one_or_apart rs h.apart s r i.1 at) [
-        | inl e ↦ let same : s.last ≡ r.last = ap (λ (x : Range). x.last) e in omega arith
-        | inr far ↦ let whole = h.none_empty r at in elim far [ inl lt ↦ omega arith | inr lt ↦ omega arith ]
+module _ {X : Type 0} (first last : X → ℕ) where
+  -- two elements are one, or are apart
+  one_or_apart : (rs : List X) → AllPairs (λ r s. last r + 1 < first s) rs → (r s : X) → Contains rs r → Contains rs s → (r ≡ s) ⊎ ((last r + 1 < first s) ⊎ (last s + 1 < first r))
+  one_or_apart rs apart r s a b =
+      let i = a.0 in
+      let j = b.0 in
+      let before : i < j → last r + 1 < first s = λ lt.
+          subst (λ x. last x + 1 < first s) a.2 (subst (λ y. last (get_or rs i r) + 1 < first y) (sym (get_or_default rs j s r b.1) ∙ b.2) (apart i j r lt b.1)) in
+      let after : j < i → last s + 1 < first r = λ lt.
+          subst (λ x. last x + 1 < first r) b.2 (subst (λ y. last (get_or rs j s) + 1 < first y) (sym (get_or_default rs i r s a.1) ∙ a.2) (apart j i s lt a.1)) in
+      elim (cases_lt i j) [
+        | inl lt ↦ inr (inl (before lt))
+        | inr le ↦ elim (cases_lt j i) [
+          | inl lt ↦ inr (inr (after lt))
+          | inr ge ↦ let same : i ≡ j = omega arith in inl (sym a.2 ∙ get_or_default rs i r s a.1 ∙ subst (λ n. get_or rs i s ≡ get_or rs n s) same refl ∙ b.2)
+        ]
       ]
 
-  -- nor right before it
-  begins : (p : ℕ) → p + 1 ≡ r.first → P p → ⊥
-  begins p next has =
-      let i = (h.exact p).1 has in
-      let s = i.0 in
-      let low : s.first ≤ p = i.2 in
-      let high : p ≤ s.last = i.3 in
-      let whole = h.none_empty r at in
-      elim (one_or_apart rs h.apart s r i.1 at) [
-        | inl e ↦ let same : s.first ≡ r.first = ap (λ (x : Range). x.first) e in omega arith
-        | inr far ↦ elim far [ inl lt ↦ omega arith | inr lt ↦ omega arith ]
-      ]
+  module _ (P : ℕ → Type 0) (rs : List X) (h : Covers first last P rs) (r : X) (at : Contains rs r) where
+    inside : (p : ℕ) → first r ≤ p → p ≤ last r → P p
+    inside p low high = (h.exact p).0 (r, at, low, high)
 
-same_range : (r s : Range) → r.first ≡ s.first → r.last ≡ s.last → r ≡ s
-same_range r s a b = λ i. record { first = a i; last = b i }
+    -- P doesn't hold right after an element
+    ends : P (last r + 1) → ⊥
+    ends p =
+        let i = (h.exact (last r + 1)).1 p in
+        let s = i.0 in
+        let low : first s ≤ last r + 1 = i.2 in
+        let high : last r + 1 ≤ last s = i.3 in
+        elim (one_or_apart rs h.apart s r i.1 at) [
+          | inl e ↦ let same : last s ≡ last r = ap last e in omega arith
+          | inr far ↦ let whole = h.none_empty r at in elim far [ inl lt ↦ omega arith | inr lt ↦ omega arith ]
+        ]
 
-range_among : (P : ℕ → Type 0) (rs qs : List Range) → AreRanges P rs → AreRanges P qs → (r : Range) → Contains rs r → Contains qs r
-range_among P rs qs h g r at =
-    let whole = h.none_empty r at in
-    let i = (g.exact r.first).1 (inside P rs h r at r.first (omega arith) whole) in
-    let s = i.0 in
-    let low : s.first ≤ r.first = i.2 in
-    let high : r.first ≤ s.last = i.3 in
-    let first : r.first ≡ s.first = elim (cases_lt s.first r.first) [
-      | inl lt ↦
-          let before : ℕ = pred r.first in
-          absurd (begins P rs h r at before (omega arith) (inside P qs g s i.1 before (omega arith) (omega arith)))
-      | inr le ↦ omega arith
-    ] in
-    let last : r.last ≡ s.last = elim (cases_lt r.last s.last) [
-      | inl lt ↦ absurd (ends P rs h r at (inside P qs g s i.1 (r.last + 1) (omega arith) (omega arith)))
-      | inr le ↦ elim (cases_lt s.last r.last) [
-        | inl lt ↦ absurd (ends P qs g s i.1 (inside P rs h r at (s.last + 1) (omega arith) (omega arith)))
-        | inr ge ↦ omega arith
-      ]
-    ] in
-    subst (λ (x : Range). Contains qs x) (sym (same_range r s first last)) i.1
+    -- nor right before it
+    begins : (p : ℕ) → p + 1 ≡ first r → P p → ⊥
+    begins p next has =
+        let i = (h.exact p).1 has in
+        let s = i.0 in
+        let low : first s ≤ p = i.2 in
+        let high : p ≤ last s = i.3 in
+        let whole = h.none_empty r at in
+        elim (one_or_apart rs h.apart s r i.1 at) [
+          | inl e ↦ let same : first s ≡ first r = ap first e in omega arith
+          | inr far ↦ elim far [ inl lt ↦ omega arith | inr lt ↦ omega arith ]
+        ]
 
-ranges_ordered : (P : ℕ → Type 0) (rs : List Range) → AreRanges P rs → AreAll (λ (r : Range). (r.first, 0)) (Contains rs) rs
-ranges_ordered P rs h = record {
-  exact = λ r. (λ at. at, λ at. at);
-  ordered = λ i j d lt end.
-      let below : i < length rs = omega arith in
-      let whole = h.none_empty (get_or rs i d) (member rs i d below) in
-      let apart = h.apart i j d lt end in
-      inl (omega arith);
-}
+  module _ (one : (r s : X) → first r ≡ first s → last r ≡ last s → r ≡ s) (P : ℕ → Type 0) where
+    element_among : (rs qs : List X) → Covers first last P rs → Covers first last P qs → (r : X) → Contains rs r → Contains qs r
+    element_among rs qs h g r at =
+        let whole = h.none_empty r at in
+        let i = (g.exact (first r)).1 (inside P rs h r at (first r) (omega arith) whole) in
+        let s = i.0 in
+        let low : first s ≤ first r = i.2 in
+        let high : first r ≤ last s = i.3 in
+        let begin : first r ≡ first s = elim (cases_lt (first s) (first r)) [
+          | inl lt ↦
+              let previous : ℕ = pred (first r) in
+              absurd (begins P rs h r at previous (omega arith) (inside P qs g s i.1 previous (omega arith) (omega arith)))
+          | inr le ↦ omega arith
+        ] in
+        let end : last r ≡ last s = elim (cases_lt (last r) (last s)) [
+          | inl lt ↦ absurd (ends P rs h r at (inside P qs g s i.1 (last r + 1) (omega arith) (omega arith)))
+          | inr le ↦ elim (cases_lt (last s) (last r)) [
+            | inl lt ↦ absurd (ends P qs g s i.1 (inside P rs h r at (last s + 1) (omega arith) (omega arith)))
+            | inr ge ↦ omega arith
+          ]
+        ] in
+        subst (Contains qs) (sym (one r s begin end)) i.1
 
-pub one_list_of_ranges : (P : ℕ → Type 0) (rs qs : List Range) → AreRanges P rs → AreRanges P qs → rs ≡ qs
-one_list_of_ranges P rs qs h g =
-    let there = ranges_ordered P qs g in
-    one_list (λ (r : Range). (r.first, 0)) (Contains rs) rs qs (ranges_ordered P rs h)
-    (record { exact = λ r. (range_among P qs rs g h r, range_among P rs qs h g r); ordered = there.ordered })
+    in_order : (rs : List X) → Covers first last P rs → AreAll (λ r. (first r, 0)) (Contains rs) rs
+    in_order rs h = record {
+      exact = λ r. (λ at. at, λ at. at);
+      ordered = λ i j d lt end.
+          let below : i < length rs = omega arith in
+          let whole = h.none_empty (get_or rs i d) (member rs i d below) in
+          let apart = h.apart i j d lt end in
+          inl (omega arith);
+    }
+
+    covers_one : (rs qs : List X) → Covers first last P rs → Covers first last P qs → rs ≡ qs
+    covers_one rs qs h g =
+        let there = in_order qs g in
+        one_list (λ r. (first r, 0)) (Contains rs) rs qs (in_order rs h) (record { exact = λ r. (element_among qs rs g h r, element_among rs qs h g r); ordered = there.ordered })
+
+-- the positions determine the list
+pub one_covering : {X : Type 0} (rs qs : List X) (first last : X → ℕ) → ((r s : X) → first r ≡ first s → last r ≡ last s → r ≡ s) → (P : ℕ → Type 0) → Covers first last P rs → Covers first last P qs → rs ≡ qs
+one_covering rs qs first last one P = covers_one first last one P rs qs
 
 -- ---- texts
 

@@ -30,26 +30,24 @@ use Rattle.certpath_inputs.specs.declared.demand.Demand.{Demand}
 use Rattle.certpath_why.specs.Bounds.{IsBound, reach_by}
 use Rattle.certpath_why.specs.Demanded.{AreDemandLines}
 use Rattle.certpath_why.specs.Lines.{issuer_line, link_lines, list_lines, reach_lines, subject_line, to_anchors, to_items, unusable_line}
-use Rattle.certpath_why.specs.Ranges.{AreRanges}
-use Rattle.certpath_why.specs.declared.ranges.Range.{Range}
 use Rattle.certpath_why.specs.Reached.{ArePositions, HasSubject, IsCertificateAt, IsFurther}
 use Rattle.certpath_why.specs.Why.{AreNoIssuerLines, AreTexts, AreUnusableLines, FailsTo, FailsToAnchor, IsLinkedTo, IsLinkedToAnchor, IsWhyFor, TellsAt, TellsCertificate, TellsGroup, TellsGroups, TellsItem, TellsItemAt, TellsLinks, TellsList, TellsReached, missing_lines, octets_at, positions}
-use Rattle.laws_paths.proofs.Ascending.{all_among, member, one_ascent, one_list_of_ranges, one_merged, one_text_of_each}
+use Rattle.laws_paths.proofs.Ascending.{all_among, empty_list, member, one_ascent, one_covering, one_merged, one_text_of_each}
 
 -- ---- links
 
 one_group : (front : List ℕ) (what : Option Unlinked) (P : ℕ → Type 0) (text other : List ℕ) → TellsGroup front what P text → TellsGroup front what P other → text ≡ other
-one_group front what P text other h g = h.2 ∙ ap (λ (rs : List Range). link_lines front what rs) (one_list_of_ranges P h.0 g.0 h.1 g.1) ∙ sym g.2
+one_group front what P text other h g =
+    let same : h.0 ≡ g.0 =
+    one_covering h.0 g.0 (λ r. r.first) (λ r. r.last) (λ r s a b. λ i. record { first = a i; last = b i }) P (record { exact = h.1.exact; apart = h.1.apart; none_empty = h.1.none_empty })
+    (record { exact = g.1.exact; apart = g.1.apart; none_empty = g.1.none_empty }) in
+    h.2 ∙ ap (link_lines front what) same ∙ sym g.2
 
--- no position is in no range
-no_range : (P : ℕ → Type 0) (rs : List Range) → ((p : ℕ) → P p → ⊥) → AreRanges P rs → rs ≡ []
-no_range P [] none h = refl
-no_range P (r ∷ rs) none h =
-    let there : Contains (r ∷ rs) r = (0, (let lt : 0 < length (r ∷ rs) = omega arith in lt), refl) in
-    absurd (none r.first ((h.exact r.first).0 (r, there, le_refl r.first, h.none_empty r there)))
-
+-- of no position there is no line
 no_line : (front : List ℕ) (what : Option Unlinked) (P : ℕ → Type 0) (text : List ℕ) → ((p : ℕ) → P p → ⊥) → TellsGroup front what P text → text ≡ []
-no_line front what P text none h = h.2 ∙ ap (λ (rs : List Range). link_lines front what rs) (no_range P h.0 none h.1)
+no_line front what P text none h =
+    let ranges : h.0 ≡ [] = empty_list h.0 (λ r at. none r.first ((h.1.exact r.first).0 (r, at, le_refl r.first, h.1.none_empty r at))) in
+    h.2 ∙ ap (link_lines front what) ranges
 
 same_five : (a b c d e a' b' c' d' e' : List ℕ) → a ≡ a' → b ≡ b' → c ≡ c' → d ≡ d' → e ≡ e' → a ++ (b ++ (c ++ (d ++ e))) ≡ a' ++ (b' ++ (c' ++ (d' ++ e')))
 same_five a b c d e a' b' c' d' e' p q r s t = λ i. p i ++ (q i ++ (r i ++ (s i ++ t i)))
