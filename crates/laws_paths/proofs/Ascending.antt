@@ -1,4 +1,5 @@
--- Lists in order are determined by what they contain: positions, ranges of positions, and texts of positions.
+-- Lists in order are determined by what they contain: positions and ranges of positions. So are
+-- texts of positions, of which some may be empty.
 use Rattle.std.specs.Prelude.{◌↔◌, ◌⊎◌}
 use Rattle.std.proofs.Common.{◌≡◌, ◌∙◌, refl, ap, sym, subst, zero, suc, pred, ℕ, ◌+◌, ◌<◌, ◌≤◌, List, [], ◌∷◌, ◌++◌, length, arith, get_or, inl, inr}
 use Rattle.std.specs.List.{All, AllPairs, Contains}
@@ -33,7 +34,8 @@ pub empty_list : {X : Type 0} (xs : List X) → ((x : X) → Contains xs x → �
 empty_list [] none = refl
 empty_list (x ∷ xs) none = absurd (none x (0, (let lt : 0 < length (x ∷ xs) = omega arith in lt), refl))
 
--- P holds exactly from the first to the last position of each element, and a position without it is between two
+-- P holds exactly from the first to the last position of each element. Between two elements is a
+-- position without it.
 pub record Covers {X : Type 0} (first last : X → ℕ) (P : ℕ → Type 0) (rs : List X) : Type 0 where
   pub exact : (p : ℕ) → ((r : X) × Contains rs r × (first r ≤ p) × (p ≤ last r)) ↔ P p
   pub apart : AllPairs (λ r s. last r + 1 < first s) rs
@@ -46,9 +48,9 @@ module _ {X : Type 0} (first last : X → ℕ) where
       let i = a.0 in
       let j = b.0 in
       let before : i < j → last r + 1 < first s = λ lt.
-          subst (λ x. last x + 1 < first s) a.2 (subst (λ y. last (get_or rs i r) + 1 < first y) (sym (get_or_default rs j s r b.1) ∙ b.2) (apart i j r lt b.1)) in
+      subst (λ x. last x + 1 < first s) a.2 (subst (λ y. last (get_or rs i r) + 1 < first y) (sym (get_or_default rs j s r b.1) ∙ b.2) (apart i j r lt b.1)) in
       let after : j < i → last s + 1 < first r = λ lt.
-          subst (λ x. last x + 1 < first r) b.2 (subst (λ y. last (get_or rs j s) + 1 < first y) (sym (get_or_default rs i r s a.1) ∙ a.2) (apart j i s lt a.1)) in
+      subst (λ x. last x + 1 < first r) b.2 (subst (λ y. last (get_or rs j s) + 1 < first y) (sym (get_or_default rs i r s a.1) ∙ a.2) (apart j i s lt a.1)) in
       elim (cases_lt i j) [
         | inl lt ↦ inr (inl (before lt))
         | inr le ↦ elim (cases_lt j i) [
@@ -137,12 +139,12 @@ one_text_of_each IsText one (x ∷ xs) text other h g =
     let rest = one_text_of_each IsText one xs h.1 g.1 h.3 g.3 in
     h.4 ∙ ap (λ t. t ++ h.1) first ∙ ap (λ t. g.0 ++ t) rest ∙ sym g.4
 
--- of positions that only one of two lists contains the text is empty
+-- positions that only the first of two lists contains have an empty text
 
 abbrev IsEmptyBeyond : (ℕ → List ℕ → Type 0) → List ℕ → List ℕ → Type 0
 IsEmptyBeyond IsText ps qs = (p : ℕ) (t : List ℕ) → Contains ps p → (Contains qs p → ⊥) → IsText p t → t ≡ []
 
--- the first of a list, one of the rest, and the first is before these
+-- members of a list with one element more at its front
 
 first_in : (x : ℕ) (xs : List ℕ) → Contains (x ∷ xs) x
 first_in x xs = (0, (let lt : 0 < length (x ∷ xs) = omega arith in lt), refl)
@@ -213,6 +215,7 @@ module _ (IsText : ℕ → List ℕ → Type 0) (one : (p : ℕ) (t u : List ℕ
         ]
       ]
 
-  -- texts of two ascending lists are equal, if those of the positions that only one of them contains are empty
+  -- texts of two ascending lists are equal, if each position that only one of them contains has an
+  -- empty text
   pub one_merged : (ps qs : List ℕ) → IsStrictlyIncreasing ps → IsStrictlyIncreasing qs → IsEmptyBeyond IsText ps qs → IsEmptyBeyond IsText qs ps → (text other : List ℕ) → AreTexts IsText ps text → AreTexts IsText qs other → text ≡ other
   one_merged ps qs up down = merged (length ps + length qs) ps qs (omega arith) (AllPairs-from_increasing ps up) (AllPairs-from_increasing qs down)

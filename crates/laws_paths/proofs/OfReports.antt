@@ -1,4 +1,4 @@
--- The reports on a target that isn't there are right.
+-- The worked reports without items are right.
 use Rattle.std.proofs.Common.{◌≡◌, refl, ℕ, true, List, [], ◌∷◌, ◌++◌, arith, inl, inr, zero, suc, Some, None}
 use Rattle.std.specs.Fmt.{digits}
 use Rattle.std.proofs.lemmas.List.Elements.{All-from_recursion}

@@ -1,4 +1,4 @@
--- What is demanded of a certificate has one text, and the permits of one demand vouch for the same and process the same.
+-- The lines of a demand are determined, and two permits of one demand are one relation.
 use Rattle.std.specs.Prelude.{◌↔◌, ◌⊎◌}
 use Rattle.std.proofs.Common.{◌≡◌, ◌∙◌, refl, ap, sym, ℕ, Bool, true, false, IsTrue, IsSomeAnd, List, [], ◌++◌, inl, inr, Option, Some, None}
 use Rattle.std.specs.Borrow.{Bor}

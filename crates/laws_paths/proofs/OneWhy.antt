@@ -1,4 +1,4 @@
--- Two texts of what prevents a path are equal: the lines of links, of certificates, of lists, and the whole.
+-- Two texts of what prevents a path are equal: lines of links, certificates and lists, and all.
 use Rattle.std.specs.Prelude.{◌↔◌, ◌⊎◌}
 use Rattle.std.proofs.Common.{◌≡◌, ◌∙◌, refl, ap, sym, subst, ℕ, ◌+◌, ◌<◌, ◌≤◌, Bool, if◌then◌else◌, nat_eq, List, [], ◌∷◌, ◌++◌, length, flat_map, arith, get_or, le_refl, inl, inr, Contains, Option, Some, None}
 use Rattle.cert_graph.specs.Adequate.{at_row, row_of, rows_of}
@@ -101,12 +101,12 @@ one_text_of_certificate demand r items anchors target v x c one text other h g =
     let linked = one_text_of_links r items anchors v x c h.links g.links h.links_are g.links_are in
     h.text_is ∙ same_five subject h.unusable h.unmet h.no_issuer h.links subject g.unusable g.unmet g.no_issuer g.links refl unusable unmet no_issuer linked ∙ sym g.text_is
 
--- what is demanded of the items that are certificates has one text
+-- the items that are certificates have one text of what is demanded
 abbrev pub OneUnmet : Demand → List Item → ℕ → Type 0
 OneUnmet demand items target = (v : ℕ) (x : Item) (c : Certificate) → Contains items x → x.class ≡ classes.certificate c
     → (text other : List ℕ) → AreDemandLines demand (octets_at items target) v x c text → AreDemandLines demand (octets_at items target) v x c other → text ≡ other
 
--- an item to begin from, where a position has one
+-- an item as a default
 some_item : Item
 some_item = record { octets = []; class = classes.other }
 

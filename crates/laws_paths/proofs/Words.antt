@@ -1,4 +1,4 @@
--- The words on what extensions allow and serve are determined, if the values of extensions are short.
+-- Extensions with short values have one text of purposes, and one of hosts.
 use Rattle.std.specs.Prelude.{codes}
 use Rattle.std.proofs.Common.{◌≡◌, ◌∙◌, ap, sym, subst, ℕ, ◌^◌, ◌<◌, List, ◌∷◌, ◌++◌, [], length, inl, inr, Contains}
 use Rattle.std.proofs.lemmas.List.Elements.{Contains-append_left, Contains-append_right, Contains-push}
