@@ -428,7 +428,12 @@ def written():
              wrapped(f"Of {len(every)} public calls {len(listed)} depend on a page. Of the crates of the kit definitions of these are reached: {', '.join(f'`{entry}`' for entry in kit)}."), "",
              "A reader's clause `exact` says which error is returned, in definitions that follow its steps. To",
              "know what a reader accepts, and as which value, these needn't be read.", "",
-             wrapped("Of the pages of the calls that judge, and of C's, these follow the code step by step: " + (", ".join(f"`{short(entry)}`" for entry in following(judged())) or "none") + ".")]
+             wrapped("Of the pages of the calls that judge, and of C's, these follow the code step by step: " + (", ".join(f"`{short(entry)}`" for entry in following(judged())) or "none") + "."), "",
+             "The byte places of `cert_judge/specs/Limits` needn't be believed. By the laws of",
+             "`laws_judge::path_lengths` each fit issuer has one path length constraint by the grammar, or none",
+             "(`HasPathLen` of `cert_judge/specs/Judging`; RFC 5280, 4.2.1.9), and its limit is what that lets",
+             "through. Whichever limits are so at fit issuers, the graph with them has the same paths, answers",
+             "and inventories. So `laws_judge/specs/PathLengths` can be read in place of `Limits`."]
     return "\n".join(lines) + "\n"
 
 

@@ -68,6 +68,9 @@ impl<'a> Known<'a> {
 #[derive(Drop)]
 struct Memory<'a> {
     known: Vec<Known<'a>>,
+    /// The tails of the texts, in the order of these, once they are sorted. A search over them
+    /// reads less memory than one over the texts.
+    tails: Vec<u64>,
     is_sorted: bool,
     /// Where a text was found last.
     last: usize,
@@ -77,26 +80,28 @@ impl<'a> Memory<'a> {
     fn new(alloc: Global) -> Memory<'a> {
         Memory {
             known: Vec::new(alloc),
+            tails: Vec::new(alloc),
             is_sorted: true,
             last: 0,
         }
     }
 
-    /// Returns whether the last one is this text.
-    fn ends_with(&self, text: &[u8]) -> bool {
+    /// Returns whether the last one is this text, which has this tail.
+    fn ends_with(&self, tail: u64, text: &[u8]) -> bool {
         match self.known.last() {
-            Some(known) => known.text == text,
+            Some(known) => known.tail == tail && known.text == text,
             None => false,
         }
     }
 
     /// One text more, unless it is the last one or memory for it is refused.
     fn add(&mut self, text: &'a [u8]) {
-        if self.ends_with(text) {
+        let tail = tail_of(text);
+        if self.ends_with(tail, text) {
             return;
         }
         let known = Known {
-            tail: tail_of(text),
+            tail,
             text,
             digest: None,
             next: 0,
@@ -110,8 +115,19 @@ impl<'a> Memory<'a> {
     fn sort(&mut self) {
         if !self.is_sorted {
             self.known.sort_unstable_by(|a, b| a.order(b.tail, b.text));
-            self.known.dedup_by_key(|known| known.text);
+            self.known.dedup_by_key(|known| (known.tail, known.text));
+            self.list_tails();
             self.is_sorted = true;
+        }
+    }
+
+    /// Lists the tails of the texts, as many as there is memory for.
+    fn list_tails(&mut self) {
+        self.tails.clear();
+        for known in &self.known {
+            if self.tails.push(known.tail).is_err() {
+                return;
+            }
         }
     }
 
@@ -158,11 +174,18 @@ impl<'a> Memory<'a> {
         Some(digest)
     }
 
-    /// The digest of a known text, by a search.
+    /// The digest of a known text, by a search over the tails, and over the texts if another one has
+    /// its tail.
     fn look_up(&mut self, text: &[u8]) -> Option<[u8; 32]>
         ensures { IfSome result (λ d. d ≡ sha256 text.now) }
     {
         let tail = tail_of(text);
+        if let Ok(place) = self.tails.binary_search(&tail) {
+            if let Some(digest) = self.digest_at(place, text) {
+                self.step_to(place);
+                return Some(digest);
+            }
+        }
         let found = self.known.binary_search_by(|known| known.order(tail, text));
         let place = found.ok()?;
         self.step_to(place);

@@ -1,3 +1,4 @@
+pub mod OfPathLengths
 pub mod OfPaths
 pub mod OfPermits
 pub mod OfQuestions

@@ -1,2 +1,3 @@
+pub mod PathLengths
 pub mod Serving
 pub mod Worked

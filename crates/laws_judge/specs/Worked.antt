@@ -1,9 +1,10 @@
 -- Who vouches, items and answers of worked cases: they try the laws' definitions, not the code.
-use Rattle.std.specs.Prelude.{ℕ, Bool, true, IsTrue, nat_eq, List, [], ◌∷◌, ◌≡◌}
+use Rattle.std.specs.Prelude.{ℕ, zero, suc, Bool, true, IsTrue, nat_eq, List, [], ◌∷◌, ◌≡◌}
 use Rattle.std.specs.Cmp.Lexicographic.{pointwise}
 use Rattle.std.specs.Global.{Global}
 use Rattle.std.proofs.Math.Dec.{lit<}
-use Rattle.cert_graph.specs.declared.reach.Reach.TheVariants.{Any}
+use Rattle.cert_graph.specs.declared.reach.Reach.{Reach}
+use Rattle.cert_graph.specs.declared.reach.Reach.TheVariants.{No, UpTo, Any}
 use Rattle.cert_graph.specs.declared.answer.Answer.{Answer}
 use Rattle.cert_graph.specs.declared.answer.Answer.TheVariants.{Path}
 use Rattle.cert_graph.specs.declared.answer.Table.TheVariants.{Row, Rows}
@@ -72,3 +73,11 @@ two_and_a_list = numbered 1 issued_by_b ∷ numbered 9 purposed_twice ∷ number
 -- the same with b's certificate in the place of the second
 abbrev pub path_and_a_list : List Item
 path_and_a_list = numbered 1 issued_by_b ∷ numbered 2 authority_b ∷ numbered_list 3 ∷ []
+
+-- two certificates, and limits of them, written by hand: the first is no fit issuer, the second has path length 0
+abbrev pub two_items : List Item
+two_items = numbered 1 issued_by_b ∷ numbered 2 authority_b ∷ []
+
+abbrev pub by_hand : ℕ → Reach
+by_hand zero = No
+by_hand (suc v) = UpTo 0
