@@ -65,7 +65,7 @@ fn write_items<W: Sink>(writer: &mut W, found: &[Found<'_>]) -> Result<(), Bundl
     Ok(())
 }
 
-/// Writes the items of all files, and flushes once.
+/// Writes the items of all files, and flushes once, after all of them were written.
 fn write_all<W: Sink>(writer: &mut W, found: &[Found<'_>]) -> Result<(), BundleError>
     ensures ok { OnOk result (Appends (W.contents writer.old) (W.contents writer.new) (items_of (map found_view found.now))) }
     ensures part { OnErr result (AppendsFront (W.contents writer.old) (W.contents writer.new) (items_of (map found_view found.now))) }
@@ -73,6 +73,7 @@ fn write_all<W: Sink>(writer: &mut W, found: &[Found<'_>]) -> Result<(), BundleE
     ensures write { W.failures writer.new ≡ W.failures writer.old + failed_writes result }
     ensures flushed { OnOk result (W.flushes writer.new ≡ W.flushes writer.old + 1) }
     ensures once { W.flushes writer.new ≤ W.flushes writer.old + 1 }
+    ensures last { W.flushes writer.new ≡ W.flushes writer.old + 1 → Appends (W.contents writer.old) (W.contents writer.new) (items_of (map found_view found.now)) }
 {
     write_items(writer, found)?;
     if writer.flush().is_err() {
@@ -84,9 +85,10 @@ fn write_all<W: Sink>(writer: &mut W, found: &[Found<'_>]) -> Result<(), BundleE
 /// Writes the certificates and revocation lists of all files to `writer`, one right after the other,
 /// in the order of the files and of each file, with their octets. Returns what is to be said.
 ///
-/// Nothing is written before all files are read and all that is said is built. The writer is then
-/// flushed once. Beside the files it takes as much memory as their items, a row and a line for each
-/// thing that is left out, and what `certpath_files::items_of` takes while it runs.
+/// Nothing is written before all files are read and all that is said is built. The writer is flushed
+/// once, after all items were written. Beside the files it takes as much memory as their items, a
+/// row and a line for each thing that is left out, and what `certpath_files::items_of` takes while
+/// it runs.
 pub fn bundle<W: Sink>(
     alloc: Global,
     files: &[File<'_>],
@@ -103,6 +105,7 @@ pub fn bundle<W: Sink>(
     ensures write { W.failures writer.new ≡ W.failures writer.old + failed_writes result }
     ensures flushed { OnOk result (W.flushes writer.new ≡ W.flushes writer.old + 1) }
     ensures once { W.flushes writer.new ≤ W.flushes writer.old + 1 }
+    ensures last { W.flushes writer.new ≡ W.flushes writer.old + 1 → Appends (W.contents writer.old) (W.contents writer.new) (bundle_of (map file_view files.now)) }
 {
     let Ok(found) = found_in_all(alloc, files) else {
         return Err(BundleError::OutOfMemory);

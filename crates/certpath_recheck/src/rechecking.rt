@@ -75,10 +75,10 @@ fn said_of_all<B: Source, A: Source, V: Source, E: Source>(
 /// Reads bundle, anchors, vouchers and evidence, in this order and each to its end, and writes to `writer` what `certcheck::check_all`
 /// says of the inventory that the evidence was written of: `check yes` or `check no`. It returns which.
 ///
-/// Nothing is searched. Nothing is written before all is read and checked; the writer is then flushed once. After `Run(Write)` what was
-/// written is a front of the line, after any other error nothing was written. If a reader is
-/// refused, those after it are not read. It costs the reading of the four inputs and what
-/// `check_all` says.
+/// Nothing is searched. Nothing is written before all is read and checked. The writer is flushed
+/// once, after the whole line was written. After `Run(Write)` what was written is a front of the
+/// line, after any other error nothing was written. If a reader is refused, those after it are not
+/// read. It costs the reading of the four inputs and what `check_all` says.
 pub fn run_recheck<B: Source, A: Source, V: Source, E: Source, W: Sink>(
     alloc: Global,
     bundle: &mut B,
@@ -97,6 +97,9 @@ pub fn run_recheck<B: Source, A: Source, V: Source, E: Source, W: Sink>(
     ensures nothing { IfErr result (λ e. e ≢ RecheckError.Run RunError.Write → writer.new ≡ writer.old) }
     ensures flushed { OnOk result (W.flushes writer.new ≡ W.flushes writer.old + 1) }
     ensures once { W.flushes writer.new ≤ W.flushes writer.old + 1 }
+    ensures last { W.flushes writer.new ≡ W.flushes writer.old + 1 → (said : Bool) × WritesRecheck settings.now (B.remaining bundle.old) (B.remaining bundle.new)
+        (A.remaining anchors.old) (A.remaining anchors.new) (V.remaining vouchers.old) (V.remaining vouchers.new) (E.remaining evidence.old) (E.remaining evidence.new)
+        (W.contents writer.old) (W.contents writer.new) said }
 
     // When each error comes.
     ensures refused { IfErr result (MeetsRecheckRefusal (B.remaining bundle.old) (B.remaining bundle.new) (A.remaining anchors.old) (A.remaining anchors.new)
@@ -136,6 +139,9 @@ pub fn run_recheck_for<B: Source, A: Source, V: Source, E: Source, W: Sink>(
     ensures nothing { IfErr result (λ e. e ≢ RecheckError.Run RunError.Write → writer.new ≡ writer.old) }
     ensures flushed { OnOk result (W.flushes writer.new ≡ W.flushes writer.old + 1) }
     ensures once { W.flushes writer.new ≤ W.flushes writer.old + 1 }
+    ensures last { W.flushes writer.new ≡ W.flushes writer.old + 1 → (said : Bool) × WritesRecheckFor settings.now purpose.entry (B.remaining bundle.old) (B.remaining bundle.new)
+        (A.remaining anchors.old) (A.remaining anchors.new) (V.remaining vouchers.old) (V.remaining vouchers.new) (E.remaining evidence.old) (E.remaining evidence.new)
+        (W.contents writer.old) (W.contents writer.new) said }
 
     // When each error comes.
     ensures refused { IfErr result (MeetsRecheckRefusalFor purpose.entry (B.remaining bundle.old) (B.remaining bundle.new) (A.remaining anchors.old) (A.remaining anchors.new)

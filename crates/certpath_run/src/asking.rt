@@ -26,7 +26,8 @@ fn questions_on(alloc: Global, items: &Items, anchors: &Items) -> Result<String,
 /// content octets, and writes to `writer` a line for each question that a checker of signatures has
 /// to answer: an item of the bundle, and the certificate whose key may have signed it.
 ///
-/// Nothing is written before all is read and the text is built. The writer is then flushed once.
+/// Nothing is written before all is read and the text is built. The writer is flushed once, after
+/// the whole text was written.
 ///
 /// # Errors
 ///
@@ -47,6 +48,8 @@ pub fn run_questions<B: Source, A: Source, W: Sink>(
     ensures nothing { IfErr result (λ e. e ≢ ItemsError.Write → writer.new ≡ writer.old) }
     ensures flushed { OnOk result (W.flushes writer.new ≡ W.flushes writer.old + 1) }
     ensures once { W.flushes writer.new ≤ W.flushes writer.old + 1 }
+    ensures last { W.flushes writer.new ≡ W.flushes writer.old + 1 → WritesQuestions (B.remaining bundle.old) (B.remaining bundle.new) (A.remaining anchors.old) (A.remaining anchors.new)
+        (W.contents writer.old) (W.contents writer.new) limit }
 
     // When each error comes.
     ensures write { W.failures writer.new ≡ W.failures writer.old + failed_item_writes result }

@@ -18,9 +18,9 @@ use std::alloc::Global;
 /// with its first fault: its number, the octet of the item, the field, what is expected and what is
 /// found. The last line is for how the stream ends, which is returned.
 ///
-/// Nothing is written before all is read and the text is built. The writer is then flushed once.
-/// Each item is read as a tree, in time and memory linear in its octets; if an element is at fault
-/// up to 50 times that.
+/// Nothing is written before all is read and the text is built. The writer is flushed once, after
+/// the whole text was written. Each item is read as a tree, in time and memory linear in its octets;
+/// if an element is at fault up to 50 times that.
 ///
 /// # Errors
 ///
@@ -40,6 +40,8 @@ pub fn frame_why<R: Source, W: Sink>(
     ensures nothing { IfErr result (λ e. e ≢ ItemsError.Write → writer.new ≡ writer.old) }
     ensures flushed { OnOk result (W.flushes writer.new ≡ W.flushes writer.old + 1) }
     ensures once { W.flushes writer.new ≤ W.flushes writer.old + 1 }
+    ensures last { W.flushes writer.new ≡ W.flushes writer.old + 1 → (end : End) × FramesWhy (R.remaining reader.old) (R.remaining reader.new)
+        (W.contents writer.old) (W.contents writer.new) limit end }
 
     // When each error comes.
     ensures only { IfErr result (λ e. e ≢ ItemsError.Write → IsOfItems Bundle e) }

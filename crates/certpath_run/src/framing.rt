@@ -17,7 +17,7 @@ use std::alloc::Global;
 /// length in octets, and a line for how the stream ends. It returns how the stream ends.
 ///
 /// Nothing is written before all is read. The text is written in pieces of up to 65,536 octets,
-/// whose room is taken before the first; then the writer is flushed once.
+/// whose room is taken before the first. The writer is flushed once, after the last piece.
 ///
 /// # Errors
 ///
@@ -37,6 +37,8 @@ pub fn frame<R: Source, W: Sink>(
     ensures nothing { IfErr result (λ e. e ≢ ItemsError.Write → writer.new ≡ writer.old) }
     ensures flushed { OnOk result (W.flushes writer.new ≡ W.flushes writer.old + 1) }
     ensures once { W.flushes writer.new ≤ W.flushes writer.old + 1 }
+    ensures last { W.flushes writer.new ≡ W.flushes writer.old + 1 → (end : End) × Frames (R.remaining reader.old) (R.remaining reader.new)
+        (W.contents writer.old) (W.contents writer.new) limit end }
 
     // When each error comes.
     ensures only { IfErr result (λ e. e ≢ ItemsError.Write → IsOfItems Bundle e) }

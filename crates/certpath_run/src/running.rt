@@ -47,7 +47,8 @@ pub fn read_report<T: Reports, B: Source, A: Source, V: Source>(
 /// Reads bundle, anchors and vouchers, in this order and each to its end, and writes to `writer`
 /// the report that `asked` stands for. It returns what the report says in one value.
 ///
-/// Nothing is written before all is read and the report is built. The writer is then flushed once.
+/// Nothing is written before all is read and the report is built. The writer is flushed once, after
+/// the whole report was written.
 ///
 /// # Errors
 ///
@@ -69,6 +70,8 @@ pub fn run_report<T: Reports, B: Source, A: Source, V: Source, W: Sink>(
     ensures nothing { IfErr result (λ e. e ≢ RunError.Write → writer.new ≡ writer.old) }
     ensures flushed { OnOk result (W.flushes writer.new ≡ W.flushes writer.old + 1) }
     ensures once { W.flushes writer.new ≤ W.flushes writer.old + 1 }
+    ensures last { W.flushes writer.new ≡ W.flushes writer.old + 1 → (outcome : T.Outcome) × Writes (T.is_right asked.now outcome) (B.remaining bundle.old) (B.remaining bundle.new)
+        (A.remaining anchors.old) (A.remaining anchors.new) (V.remaining vouchers.old) (V.remaining vouchers.new) (W.contents writer.old) (W.contents writer.new) (T.limit_of asked.now) }
 
     // When each error comes.
     ensures refused { IfErr result (MeetsRefusal (B.remaining bundle.old) (B.remaining bundle.new) (A.remaining anchors.old) (A.remaining anchors.new)
@@ -103,6 +106,8 @@ pub fn run<B: Source, A: Source, V: Source, W: Sink>(
     ensures nothing { IfErr result (λ e. e ≢ RunError.Write → writer.new ≡ writer.old) }
     ensures flushed { OnOk result (W.flushes writer.new ≡ W.flushes writer.old + 1) }
     ensures once { W.flushes writer.new ≤ W.flushes writer.old + 1 }
+    ensures last { W.flushes writer.new ≡ W.flushes writer.old + 1 → (outcome : Outcome) × Writes (IsReportOn settings.now outcome) (B.remaining bundle.old) (B.remaining bundle.new)
+        (A.remaining anchors.old) (A.remaining anchors.new) (V.remaining vouchers.old) (V.remaining vouchers.new) (W.contents writer.old) (W.contents writer.new) settings.now.limit }
 
     // When each error comes.
     ensures refused { IfErr result (MeetsRefusal (B.remaining bundle.old) (B.remaining bundle.new) (A.remaining anchors.old) (A.remaining anchors.new)

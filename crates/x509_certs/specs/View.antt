@@ -2,7 +2,7 @@
 use Rattle.std.specs.Prelude.{◌≡◌, option_map, map}
 use Rattle.std.specs.Int.Digits.{number_from_digits}
 use Rattle.asn1_unsigned.specs.Numbers.{number_of}
-use Rattle.x509_names.specs.View.{algorithm_view, name_view, key_view, bits_view}
+use Rattle.x509_names.specs.View.{HasCountedParameters, IsCountedName, IsCountedKey, algorithm_view, name_view, key_view, bits_view}
 use Rattle.x509_time.specs.View.{validity_view}
 use Rattle.x509_ext.specs.View.{extension_view, identifier_view}
 use Rattle.x509_certs.specs.Fields.{Tbs, Certificate}
@@ -28,5 +28,14 @@ tbs_view t = record {
 abbrev pub HasSerial : TbsCertificate → Type 0
 HasSerial t = number_of t.serial ≡ number_from_digits 256 t.raw_serial.now
 
+-- headers of elements that are handed out unparsed have the lengths of their contents: the
+-- algorithm's parameters, the values in both names, the parameters of the key's algorithm
+abbrev pub IsCountedTbs : TbsCertificate → Type 0
+IsCountedTbs t = HasCountedParameters t.signature × IsCountedName t.issuer × IsCountedName t.subject × IsCountedKey t.subject_pki
+
 abbrev pub certificate_view : X509Certificate → Certificate
 certificate_view c = record { tbs = tbs_view c.tbs_certificate; algorithm = algorithm_view c.signature_algorithm; signature_value = bits_view c.signature_value; raw = c.raw.now }
+
+-- headers in the signed part do so, and that of the signature algorithm's parameters
+abbrev pub IsCountedCertificate : X509Certificate → Type 0
+IsCountedCertificate c = IsCountedTbs c.tbs_certificate × HasCountedParameters c.signature_algorithm

@@ -13,7 +13,7 @@ ghost use Rattle.x509_ext.specs.Fields.{reading_of};
 ghost use Rattle.x509_ext.specs.Lookup.{all_of, first_of, only_of, seen};
 ghost use Rattle.x509_ext.specs.View.{WantsNoMemory, extension_error};
 ghost use Rattle.x509_certs.specs.Reading.{certificate_in};
-ghost use Rattle.x509_certs.specs.View.{certificate_view, HasSerial};
+ghost use Rattle.x509_certs.specs.View.{certificate_view, HasSerial, IsCountedCertificate};
 
 use crate::tbs::{TbsCertificate, next_tbs};
 use asn1_any::Element;
@@ -187,6 +187,7 @@ pub(crate) fn certificate_of<'a>(
     requires { attempts count.old + 8 * length element.any.content.now < 2 ^ 128 }
     ensures read { Gives certificate_view result (certificate_in (reading_of deep) (piece_of element.entry)) }
     ensures serial { IfOk result (λ c. HasSerial c.tbs_certificate) }
+    ensures counted { IfOk result IsCountedCertificate }
     ensures memory { IfOk result (λ c. All WantsNoMemory c.tbs_certificate.extensions.items) }
     ensures least { IfOk result (λ _. attempts count.old + 16 ≤ attempts count.new) }
     ensures grows { attempts count.old ≤ attempts count.new }

@@ -14,7 +14,7 @@ ghost use Rattle.x509_ext.specs.View.{WantsNoMemory};
 ghost use Rattle.x509_certs.specs.Certificates as grammar;
 ghost use Rattle.x509_certs.specs.Fields.{Tbs, Certificate};
 ghost use Rattle.x509_certs.specs.Reading.{tbs_at, certificate_at};
-ghost use Rattle.x509_certs.specs.View.{tbs_view, certificate_view, HasSerial};
+ghost use Rattle.x509_certs.specs.View.{tbs_view, certificate_view, HasSerial, IsCountedTbs, IsCountedCertificate};
 
 use crate::certificate::{X509Certificate, certificate_of};
 use crate::tbs::{TbsCertificate, tbs_of};
@@ -66,6 +66,7 @@ impl X509CertificateParser {
         ensures missing { TellsMissing i.now result }
         ensures window { IfOk result (λ r. i.now ≡ r.1.raw.now ++ r.0.now) }
         ensures serial { IfOk result (λ r. HasSerial r.1.tbs_certificate) }
+        ensures counted { IfOk result (λ r. IsCountedCertificate r.1) }
         ensures memory { IfOk result (λ r. All WantsNoMemory r.1.tbs_certificate.extensions.items) }
         ensures found { IfOk result (λ r. grammar.X509Certificate (meaning_of self.now.deep_parse_extensions) i.now (certificate_view r.1) r.0.now) }
         ensures only { (v : Certificate) (rest : List ℕ) → grammar.X509Certificate (meaning_of self.now.deep_parse_extensions) i.now v rest
@@ -92,6 +93,7 @@ impl X509CertificateParser {
         ensures missing { TellsMissing i.now result }
         ensures window { IfOk result (λ r. i.now ≡ r.1.raw.now ++ r.0.now) }
         ensures serial { IfOk result (λ r. HasSerial r.1.tbs_certificate) }
+        ensures counted { IfOk result (λ r. IsCountedCertificate r.1) }
         ensures memory { IfOk result (λ r. All WantsNoMemory r.1.tbs_certificate.extensions.items) }
         ensures found { IfOk result (λ r. grammar.X509Certificate IsUnparsed i.now (certificate_view r.1) r.0.now) }
         ensures only { (v : Certificate) (rest : List ℕ) → grammar.X509Certificate IsUnparsed i.now v rest
@@ -151,6 +153,7 @@ impl TbsCertificateParser {
         ensures missing { TellsMissing i.now result }
         ensures window { IfOk result (λ r. i.now ≡ r.1.raw.now ++ r.0.now) }
         ensures serial { IfOk result (λ r. HasSerial r.1) }
+        ensures counted { IfOk result (λ r. IsCountedTbs r.1) }
         ensures memory { IfOk result (λ r. All WantsNoMemory r.1.extensions.items) }
         ensures found { IfOk result (λ r. grammar.TbsCertificate (meaning_of self.now.deep_parse_extensions) i.now (tbs_view r.1) r.0.now) }
         ensures only { (v : Tbs) (rest : List ℕ) → grammar.TbsCertificate (meaning_of self.now.deep_parse_extensions) i.now v rest
@@ -194,6 +197,7 @@ impl<'a> FromDer<'a, X509Error> for X509Certificate<'a> {
         ensures missing { TellsMissing bytes.now result }
         ensures window { IfOk result (λ r. bytes.now ≡ r.1.raw.now ++ r.0.now) }
         ensures serial { IfOk result (λ r. HasSerial r.1.tbs_certificate) }
+        ensures counted { IfOk result (λ r. IsCountedCertificate r.1) }
         ensures memory { IfOk result (λ r. All WantsNoMemory r.1.tbs_certificate.extensions.items) }
         ensures found { IfOk result (λ r. grammar.X509Certificate IsParsed bytes.now (certificate_view r.1) r.0.now) }
         ensures only { (v : Certificate) (rest : List ℕ) → grammar.X509Certificate IsParsed bytes.now v rest
@@ -227,6 +231,7 @@ impl<'a> FromDer<'a, X509Error> for TbsCertificate<'a> {
         ensures missing { TellsMissing bytes.now result }
         ensures window { IfOk result (λ r. bytes.now ≡ r.1.raw.now ++ r.0.now) }
         ensures serial { IfOk result (λ r. HasSerial r.1) }
+        ensures counted { IfOk result (λ r. IsCountedTbs r.1) }
         ensures memory { IfOk result (λ r. All WantsNoMemory r.1.extensions.items) }
         ensures found { IfOk result (λ r. grammar.TbsCertificate IsParsed bytes.now (tbs_view r.1) r.0.now) }
         ensures only { (v : Tbs) (rest : List ℕ) → grammar.TbsCertificate IsParsed bytes.now v rest
@@ -247,6 +252,7 @@ pub fn parse_x509_certificate<'a>(alloc: Global, i: &'a [u8]) -> X509Result<'a, 
     ensures missing { TellsMissing i.now result }
     ensures window { IfOk result (λ r. i.now ≡ r.1.raw.now ++ r.0.now) }
     ensures serial { IfOk result (λ r. HasSerial r.1.tbs_certificate) }
+    ensures counted { IfOk result (λ r. IsCountedCertificate r.1) }
     ensures memory { IfOk result (λ r. All WantsNoMemory r.1.tbs_certificate.extensions.items) }
     ensures found { IfOk result (λ r. grammar.X509Certificate IsParsed i.now (certificate_view r.1) r.0.now) }
     ensures only { (v : Certificate) (rest : List ℕ) → grammar.X509Certificate IsParsed i.now v rest
@@ -265,6 +271,7 @@ pub fn parse_x509_der<'a>(alloc: Global, i: &'a [u8]) -> X509Result<'a, X509Cert
     ensures missing { TellsMissing i.now result }
     ensures window { IfOk result (λ r. i.now ≡ r.1.raw.now ++ r.0.now) }
     ensures serial { IfOk result (λ r. HasSerial r.1.tbs_certificate) }
+    ensures counted { IfOk result (λ r. IsCountedCertificate r.1) }
     ensures memory { IfOk result (λ r. All WantsNoMemory r.1.tbs_certificate.extensions.items) }
     ensures found { IfOk result (λ r. grammar.X509Certificate IsParsed i.now (certificate_view r.1) r.0.now) }
     ensures only { (v : Certificate) (rest : List ℕ) → grammar.X509Certificate IsParsed i.now v rest
@@ -277,6 +284,7 @@ fn tbs_at_front<'a>(alloc: Global, i: &'a [u8], deep: bool) -> X509Result<'a, Tb
     ensures exact { Gives (λ r. (tbs_view r.1, r.0.now)) result (tbs_at (reading_of deep) i.now) }
     ensures missing { TellsMissing i.now result }
     ensures serial { IfOk result (λ r. HasSerial r.1) }
+    ensures counted { IfOk result (λ r. IsCountedTbs r.1) }
     ensures memory { IfOk result (λ r. All WantsNoMemory r.1.extensions.items) }
 {
     let mut count = HeaderCount::new();
@@ -295,6 +303,7 @@ fn certificate_at_front<'a>(
     ensures exact { Gives (λ r. (certificate_view r.1, r.0.now)) result (certificate_at (reading_of deep) i.now) }
     ensures missing { TellsMissing i.now result }
     ensures serial { IfOk result (λ r. HasSerial r.1.tbs_certificate) }
+    ensures counted { IfOk result (λ r. IsCountedCertificate r.1) }
     ensures memory { IfOk result (λ r. All WantsNoMemory r.1.tbs_certificate.extensions.items) }
 {
     let mut count = HeaderCount::new();
@@ -312,6 +321,7 @@ fn counted_certificate<'a>(
     ensures exact { Gives (λ r. (certificate_view r.1, r.0.now)) result (certificate_at (reading_of deep) i.now) }
     ensures missing { TellsMissing i.now result }
     ensures serial { IfOk result (λ r. HasSerial r.1.tbs_certificate) }
+    ensures counted { IfOk result (λ r. IsCountedCertificate r.1) }
     ensures memory { IfOk result (λ r. All WantsNoMemory r.1.tbs_certificate.extensions.items) }
     ensures least { IfOk result (λ _. attempts count.old + 17 ≤ attempts count.new) }
     ensures grows { attempts count.old ≤ attempts count.new }

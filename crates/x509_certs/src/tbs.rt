@@ -7,14 +7,14 @@ ghost use Rattle.asn1_core.specs.Counts.{attempts};
 ghost use Rattle.asn1_any.specs.CutViews.{piece_of};
 ghost use Rattle.asn1_unsigned.specs.Numbers.{number_of};
 ghost use Rattle.x509_core.specs.Answers.{Gives};
-ghost use Rattle.x509_names.specs.View.{algorithm_view, name_view, key_view};
+ghost use Rattle.x509_names.specs.View.{HasCountedParameters, IsCountedName, IsCountedKey, algorithm_view, name_view, key_view};
 ghost use Rattle.x509_time.specs.View.{validity_view};
 ghost use Rattle.x509_ext.specs.Values.{serial_text};
 ghost use Rattle.x509_ext.specs.Fields.{reading_of};
 ghost use Rattle.x509_ext.specs.Lookup.{all_of, first_of, only_of, seen};
 ghost use Rattle.x509_ext.specs.View.{WantsNoMemory, extension_error, extension_view, identifier_view};
 ghost use Rattle.x509_certs.specs.Reading.{start_at, binding_at, end_at, tbs_in, tbs_at};
-ghost use Rattle.x509_certs.specs.View.{tbs_view, HasSerial};
+ghost use Rattle.x509_certs.specs.View.{tbs_view, HasSerial, IsCountedTbs};
 
 use asn1_any::Element;
 use asn1_core::{Err as Refusal, HeaderCount, OutOfMemory};
@@ -239,6 +239,7 @@ fn next_start<'a>(
     requires { attempts count.old + length parts.old.octets < 2 ^ 128 }
     ensures read { Gives (λ v. ((v.version.0, v.raw_serial.now, algorithm_view v.signature), parts.new.octets)) result (start_at parts.old.octets) }
     ensures serial { IfOk result (λ v. number_of v.serial ≡ number_from_digits 256 v.raw_serial.now) }
+    ensures counted { IfOk result (λ v. HasCountedParameters v.signature) }
     ensures elements { IfOk result (λ _. parts.new.elements + 2 ≤ parts.old.elements) }
     ensures least { IfOk result (λ _. attempts count.old + 1 ≤ attempts count.new) }
     ensures grows { attempts count.old ≤ attempts count.new }
@@ -265,6 +266,7 @@ fn next_binding<'a>(
 ) -> Result<Binding<'a>, Refusal<X509Error>>
     requires { attempts count.old + 3 * length parts.old.octets < 2 ^ 128 }
     ensures read { Gives (λ v. ((name_view v.issuer, validity_view v.validity, name_view v.subject, key_view v.subject_pki), parts.new.octets)) result (binding_at parts.old.octets) }
+    ensures counted { IfOk result (λ v. IsCountedName v.issuer × IsCountedName v.subject × IsCountedKey v.subject_pki) }
     ensures elements { IfOk result (λ _. parts.old.elements ≡ parts.new.elements + 4) }
     ensures least { IfOk result (λ _. attempts count.old + 5 ≤ attempts count.new) }
     ensures grows { attempts count.old ≤ attempts count.new }
@@ -319,6 +321,7 @@ pub(crate) fn tbs_of<'a>(
     requires { attempts count.old + 7 * length element.any.content.now < 2 ^ 128 }
     ensures read { Gives tbs_view result (tbs_in (reading_of deep) (piece_of element.entry)) }
     ensures serial { IfOk result HasSerial }
+    ensures counted { IfOk result IsCountedTbs }
     ensures memory { IfOk result (λ t. All WantsNoMemory t.extensions.items) }
     ensures least { IfOk result (λ _. attempts count.old + 12 ≤ attempts count.new) }
     ensures grows { attempts count.old ≤ attempts count.new }
@@ -354,6 +357,7 @@ pub(crate) fn next_tbs<'a>(
     requires { attempts count.old + 7 * length parts.old.octets < 2 ^ 128 }
     ensures read { Gives (λ v. (tbs_view v, parts.new.octets)) result (tbs_at (reading_of deep) parts.old.octets) }
     ensures serial { IfOk result HasSerial }
+    ensures counted { IfOk result IsCountedTbs }
     ensures memory { IfOk result (λ t. All WantsNoMemory t.extensions.items) }
     ensures elements { IfOk result (λ _. parts.old.elements ≡ parts.new.elements + 1) }
     ensures least { IfOk result (λ _. attempts count.old + 12 ≤ attempts count.new) }

@@ -4,7 +4,7 @@ use Rattle.std.specs.Int.Digits.{number_from_digits}
 use Rattle.asn1_core.specs.declared.error.Error.{Error}
 use Rattle.asn1_core.specs.declared.outcome.Err.{Err as Refusal}
 use Rattle.asn1_unsigned.specs.Numbers.{number_of}
-use Rattle.x509_names.specs.View.{algorithm_view, name_view, bits_view}
+use Rattle.x509_names.specs.View.{HasCountedParameters, IsCountedName, algorithm_view, name_view, bits_view}
 use Rattle.x509_time.specs.View.{time_view}
 use Rattle.x509_ext.specs.View.{extension_view, extension_error, WantsNoMemory}
 use Rattle.x509_lists.specs.Fields.{Entry, TbsList, RevocationList}
@@ -47,5 +47,14 @@ HaveSerials t = All HasSerial t.revoked_certificates.items
 abbrev pub EntriesWantNoMemory : TbsCertList → Type 0
 EntriesWantNoMemory t = All EntryWantsNoMemory t.revoked_certificates.items
 
+-- headers of elements that are handed out unparsed have the lengths of their contents: the
+-- algorithm's parameters and the values in the issuer's name
+abbrev pub IsCountedTbs : TbsCertList → Type 0
+IsCountedTbs t = HasCountedParameters t.signature × IsCountedName t.issuer
+
 abbrev pub list_view : CertificateRevocationList → RevocationList
 list_view l = record { tbs = tbs_view l.tbs_cert_list; algorithm = algorithm_view l.signature_algorithm; signature_value = bits_view l.signature_value; raw = l.raw.now }
+
+-- headers in the signed part do so, and that of the signature algorithm's parameters
+abbrev pub IsCountedList : CertificateRevocationList → Type 0
+IsCountedList l = IsCountedTbs l.tbs_cert_list × HasCountedParameters l.signature_algorithm

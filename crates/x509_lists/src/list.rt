@@ -12,7 +12,7 @@ ghost use Rattle.x509_ext.specs.Fields.{reading_of};
 ghost use Rattle.x509_ext.specs.View.{WantsNoMemory, extension_error};
 ghost use Rattle.x509_lists.specs.Lookup.{crl_number_of};
 ghost use Rattle.x509_lists.specs.Reading.{list_in};
-ghost use Rattle.x509_lists.specs.View.{list_view, entry_errors, HaveSerials, EntriesWantNoMemory};
+ghost use Rattle.x509_lists.specs.View.{list_view, entry_errors, HaveSerials, EntriesWantNoMemory, IsCountedList};
 
 use crate::entry::RevokedCertificate;
 use crate::tbs::{TbsCertList, next_tbs};
@@ -156,6 +156,7 @@ pub(crate) fn list_of<'a>(
     requires { attempts count.old + 8 * length element.any.content.now < 2 ^ 128 }
     ensures read { Gives list_view result (list_in (reading_of deep) (piece_of element.entry)) }
     ensures serials { IfOk result (λ l. HaveSerials l.tbs_cert_list) }
+    ensures counted { IfOk result IsCountedList }
     ensures memory { IfOk result (λ l. All WantsNoMemory l.tbs_cert_list.extensions.items) }
     ensures entries { IfOk result (λ l. EntriesWantNoMemory l.tbs_cert_list) }
     ensures least { IfOk result (λ _. attempts count.old + 8 ≤ attempts count.new) }

@@ -14,7 +14,7 @@ ghost use Rattle.x509_ext.specs.View.{WantsNoMemory};
 ghost use Rattle.x509_lists.specs.Lists as grammar;
 ghost use Rattle.x509_lists.specs.Fields.{Entry, TbsList, RevocationList};
 ghost use Rattle.x509_lists.specs.Reading.{entry_at, tbs_at, list_at};
-ghost use Rattle.x509_lists.specs.View.{entry_view, tbs_view, list_view, HasSerial, HaveSerials, EntryWantsNoMemory, EntriesWantNoMemory};
+ghost use Rattle.x509_lists.specs.View.{entry_view, tbs_view, list_view, HasSerial, HaveSerials, EntryWantsNoMemory, EntriesWantNoMemory, IsCountedTbs, IsCountedList};
 
 use crate::entry::{RevokedCertificate, entry_of};
 use crate::list::{CertificateRevocationList, list_of};
@@ -73,6 +73,7 @@ impl CertificateRevocationListParser {
         ensures missing { TellsMissing i.now result }
         ensures window { IfOk result (λ r. i.now ≡ r.1.raw.now ++ r.0.now) }
         ensures serials { IfOk result (λ r. HaveSerials r.1.tbs_cert_list) }
+        ensures counted { IfOk result (λ r. IsCountedList r.1) }
         ensures memory { IfOk result (λ r. All WantsNoMemory r.1.tbs_cert_list.extensions.items) }
         ensures entries { IfOk result (λ r. EntriesWantNoMemory r.1.tbs_cert_list) }
         ensures found { IfOk result (λ r. grammar.CertificateRevocationList (meaning_of self.now.deep_parse_extensions) i.now (list_view r.1) r.0.now) }
@@ -100,6 +101,7 @@ impl CertificateRevocationListParser {
         ensures missing { TellsMissing i.now result }
         ensures window { IfOk result (λ r. i.now ≡ r.1.raw.now ++ r.0.now) }
         ensures serials { IfOk result (λ r. HaveSerials r.1.tbs_cert_list) }
+        ensures counted { IfOk result (λ r. IsCountedList r.1) }
         ensures memory { IfOk result (λ r. All WantsNoMemory r.1.tbs_cert_list.extensions.items) }
         ensures entries { IfOk result (λ r. EntriesWantNoMemory r.1.tbs_cert_list) }
         ensures found { IfOk result (λ r. grammar.CertificateRevocationList IsUnparsed i.now (list_view r.1) r.0.now) }
@@ -146,6 +148,7 @@ impl<'a> FromDer<'a, X509Error> for CertificateRevocationList<'a> {
         ensures missing { TellsMissing bytes.now result }
         ensures window { IfOk result (λ r. bytes.now ≡ r.1.raw.now ++ r.0.now) }
         ensures serials { IfOk result (λ r. HaveSerials r.1.tbs_cert_list) }
+        ensures counted { IfOk result (λ r. IsCountedList r.1) }
         ensures memory { IfOk result (λ r. All WantsNoMemory r.1.tbs_cert_list.extensions.items) }
         ensures entries { IfOk result (λ r. EntriesWantNoMemory r.1.tbs_cert_list) }
         ensures found { IfOk result (λ r. grammar.CertificateRevocationList IsParsed bytes.now (list_view r.1) r.0.now) }
@@ -179,6 +182,7 @@ impl<'a> FromDer<'a, X509Error> for TbsCertList<'a> {
         ensures missing { TellsMissing bytes.now result }
         ensures window { IfOk result (λ r. bytes.now ≡ r.1.raw.now ++ r.0.now) }
         ensures serials { IfOk result (λ r. HaveSerials r.1) }
+        ensures counted { IfOk result (λ r. IsCountedTbs r.1) }
         ensures memory { IfOk result (λ r. All WantsNoMemory r.1.extensions.items) }
         ensures entries { IfOk result (λ r. EntriesWantNoMemory r.1) }
         ensures found { IfOk result (λ r. grammar.TbsCertList IsParsed bytes.now (tbs_view r.1) r.0.now) }
@@ -236,6 +240,7 @@ pub fn parse_x509_crl<'a>(
     ensures missing { TellsMissing i.now result }
     ensures window { IfOk result (λ r. i.now ≡ r.1.raw.now ++ r.0.now) }
     ensures serials { IfOk result (λ r. HaveSerials r.1.tbs_cert_list) }
+    ensures counted { IfOk result (λ r. IsCountedList r.1) }
     ensures memory { IfOk result (λ r. All WantsNoMemory r.1.tbs_cert_list.extensions.items) }
     ensures entries { IfOk result (λ r. EntriesWantNoMemory r.1.tbs_cert_list) }
     ensures found { IfOk result (λ r. grammar.CertificateRevocationList IsParsed i.now (list_view r.1) r.0.now) }
@@ -258,6 +263,7 @@ pub fn parse_crl_der<'a>(
     ensures missing { TellsMissing i.now result }
     ensures window { IfOk result (λ r. i.now ≡ r.1.raw.now ++ r.0.now) }
     ensures serials { IfOk result (λ r. HaveSerials r.1.tbs_cert_list) }
+    ensures counted { IfOk result (λ r. IsCountedList r.1) }
     ensures memory { IfOk result (λ r. All WantsNoMemory r.1.tbs_cert_list.extensions.items) }
     ensures entries { IfOk result (λ r. EntriesWantNoMemory r.1.tbs_cert_list) }
     ensures found { IfOk result (λ r. grammar.CertificateRevocationList IsParsed i.now (list_view r.1) r.0.now) }
@@ -289,6 +295,7 @@ fn tbs_at_front<'a>(alloc: Global, i: &'a [u8], deep: bool) -> X509Result<'a, Tb
     ensures exact { Gives (λ r. (tbs_view r.1, r.0.now)) result (tbs_at (reading_of deep) i.now) }
     ensures missing { TellsMissing i.now result }
     ensures serials { IfOk result (λ r. HaveSerials r.1) }
+    ensures counted { IfOk result (λ r. IsCountedTbs r.1) }
     ensures memory { IfOk result (λ r. All WantsNoMemory r.1.extensions.items) }
     ensures entries { IfOk result (λ r. EntriesWantNoMemory r.1) }
 {
@@ -308,6 +315,7 @@ fn list_at_front<'a>(
     ensures exact { Gives (λ r. (list_view r.1, r.0.now)) result (list_at (reading_of deep) i.now) }
     ensures missing { TellsMissing i.now result }
     ensures serials { IfOk result (λ r. HaveSerials r.1.tbs_cert_list) }
+    ensures counted { IfOk result (λ r. IsCountedList r.1) }
     ensures memory { IfOk result (λ r. All WantsNoMemory r.1.tbs_cert_list.extensions.items) }
     ensures entries { IfOk result (λ r. EntriesWantNoMemory r.1.tbs_cert_list) }
 {
@@ -326,6 +334,7 @@ fn counted_list<'a>(
     ensures exact { Gives (λ r. (list_view r.1, r.0.now)) result (list_at (reading_of deep) i.now) }
     ensures missing { TellsMissing i.now result }
     ensures serials { IfOk result (λ r. HaveSerials r.1.tbs_cert_list) }
+    ensures counted { IfOk result (λ r. IsCountedList r.1) }
     ensures memory { IfOk result (λ r. All WantsNoMemory r.1.tbs_cert_list.extensions.items) }
     ensures entries { IfOk result (λ r. EntriesWantNoMemory r.1.tbs_cert_list) }
     ensures least { IfOk result (λ _. attempts count.old + 9 ≤ attempts count.new) }

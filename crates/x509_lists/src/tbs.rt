@@ -5,12 +5,13 @@ ghost use Rattle.std.specs.Slice.Iter.{iter_rest};
 ghost use Rattle.asn1_core.specs.Counts.{attempts};
 ghost use Rattle.asn1_any.specs.CutViews.{piece_of};
 ghost use Rattle.x509_core.specs.Answers.{Gives};
+ghost use Rattle.x509_names.specs.View.{HasCountedParameters, IsCountedName};
 ghost use Rattle.x509_ext.specs.Fields.{reading_of};
 ghost use Rattle.x509_ext.specs.Lookup.{all_of, first_of};
 ghost use Rattle.x509_ext.specs.View.{WantsNoMemory, extension_error};
 ghost use Rattle.x509_lists.specs.Reading.{version_at, tbs_in, tbs_at};
 ghost use Rattle.x509_lists.specs.Steps.{signer_at, dates_at, revoked_at, signed_at, signer_view, dates_view, revoked_view};
-ghost use Rattle.x509_lists.specs.View.{tbs_view, entry_errors, HasSerial, EntryWantsNoMemory, HaveSerials, EntriesWantNoMemory};
+ghost use Rattle.x509_lists.specs.View.{tbs_view, entry_errors, HasSerial, EntryWantsNoMemory, HaveSerials, EntriesWantNoMemory, IsCountedTbs};
 
 use crate::entries::{copy_entries, next_entries};
 use crate::entry::RevokedCertificate;
@@ -150,6 +151,7 @@ fn next_signer<'a>(
 ) -> Result<Signer<'a>, Refusal<X509Error>>
     requires { attempts count.old + 3 * length parts.old.octets < 2 ^ 128 }
     ensures read { Gives (λ v. (signer_view v, parts.new.octets)) result (signer_at parts.old.octets) }
+    ensures counted { IfOk result (λ v. HasCountedParameters v.signature × IsCountedName v.issuer) }
     ensures elements { IfOk result (λ _. parts.new.elements + 2 ≤ parts.old.elements) }
     ensures least { IfOk result (λ _. attempts count.old + 1 ≤ attempts count.new) }
     ensures grows { attempts count.old ≤ attempts count.new }
@@ -246,6 +248,7 @@ fn signed_of<'a>(
     requires { attempts count.old + 6 * length parts.old.octets < 2 ^ 128 }
     ensures read { Gives tbs_view result (signed_at (reading_of deep) raw.now parts.old.octets) }
     ensures serials { IfOk result HaveSerials }
+    ensures counted { IfOk result IsCountedTbs }
     ensures memory { IfOk result (λ t. All WantsNoMemory t.extensions.items) }
     ensures entries { IfOk result EntriesWantNoMemory }
     ensures elements { IfOk result (λ _. 3 ≤ parts.old.elements) }
@@ -274,6 +277,7 @@ pub(crate) fn tbs_of<'a>(
     requires { attempts count.old + 7 * length element.any.content.now < 2 ^ 128 }
     ensures read { Gives tbs_view result (tbs_in (reading_of deep) (piece_of element.entry)) }
     ensures serials { IfOk result HaveSerials }
+    ensures counted { IfOk result IsCountedTbs }
     ensures memory { IfOk result (λ t. All WantsNoMemory t.extensions.items) }
     ensures entries { IfOk result EntriesWantNoMemory }
     ensures least { IfOk result (λ _. attempts count.old + 4 ≤ attempts count.new) }
@@ -296,6 +300,7 @@ pub(crate) fn next_tbs<'a>(
     requires { attempts count.old + 7 * length parts.old.octets < 2 ^ 128 }
     ensures read { Gives (λ v. (tbs_view v, parts.new.octets)) result (tbs_at (reading_of deep) parts.old.octets) }
     ensures serials { IfOk result HaveSerials }
+    ensures counted { IfOk result IsCountedTbs }
     ensures memory { IfOk result (λ t. All WantsNoMemory t.extensions.items) }
     ensures entries { IfOk result EntriesWantNoMemory }
     ensures elements { IfOk result (λ _. parts.old.elements ≡ parts.new.elements + 1) }

@@ -2,7 +2,7 @@
 use Rattle.std.specs.Prelude.{List, [], Option, All, map, string_bytes}
 use Rattle.asn1_core.specs.declared.error.Error.{Error}
 use Rattle.asn1_core.specs.declared.outcome.Err.{Err as Refusal}
-use Rattle.x509_names.specs.View.{algorithm_view, name_view, key_view, bits_view}
+use Rattle.x509_names.specs.View.{HasCountedParameters, IsCountedName, IsCountedKey, algorithm_view, name_view, key_view, bits_view}
 use Rattle.x509_ext.specs.View.{extension_view, extension_error, WantsNoMemory}
 use Rattle.x509_requests.specs.Fields.{AttributeValues, extension_request, challenge_password, unsupported_attribute, RequestAttribute, RequestInfo, Request}
 use Rattle.x509_requests.specs.declared.attribute.ParsedCriAttribute.{ParsedCriAttribute}
@@ -40,5 +40,14 @@ info_view r = record { version = r.version.0; subject = name_view r.subject; key
 abbrev pub AttributesWantNoMemory : X509CertificationRequestInfo → Type 0
 AttributesWantNoMemory r = All AttributeWantsNoMemory r.attributes.items
 
+-- headers of elements that are handed out unparsed have the lengths of their contents: the values
+-- in the subject's name and the parameters of the key's algorithm
+abbrev pub IsCountedInfo : X509CertificationRequestInfo → Type 0
+IsCountedInfo r = IsCountedName r.subject × IsCountedKey r.subject_pki
+
 abbrev pub request_view : X509CertificationRequest → Request
 request_view r = record { info = info_view r.certification_request_info; algorithm = algorithm_view r.signature_algorithm; signature_value = bits_view r.signature_value; raw = r.raw.now }
+
+-- headers in the signed part do so, and that of the signature algorithm's parameters
+abbrev pub IsCountedRequest : X509CertificationRequest → Type 0
+IsCountedRequest r = IsCountedInfo r.certification_request_info × HasCountedParameters r.signature_algorithm

@@ -8,7 +8,7 @@ ghost use Rattle.x509_ext.specs.Values.{deeply};
 ghost use Rattle.x509_ext.specs.Reading.{version_at};
 ghost use Rattle.x509_requests.specs.Lookup.{attributes_of, first_attribute};
 ghost use Rattle.x509_requests.specs.Reading.{info_in, info_at};
-ghost use Rattle.x509_requests.specs.View.{info_view, AttributesWantNoMemory};
+ghost use Rattle.x509_requests.specs.View.{info_view, AttributesWantNoMemory, IsCountedInfo};
 
 use crate::attribute::X509CriAttribute;
 use crate::attributes::attributes_of;
@@ -93,6 +93,7 @@ pub(crate) fn info_of<'a>(
 ) -> Result<X509CertificationRequestInfo<'a>, Refusal<X509Error>>
     ensures read { Gives info_view result (info_in deeply (piece_of element.entry)) }
     ensures memory { IfOk result AttributesWantNoMemory }
+    ensures counted { IfOk result IsCountedInfo }
 {
     let mut count = HeaderCount::new();
     let mut parts = parts_of(alloc, 16, element, &mut count)?;
@@ -116,6 +117,7 @@ pub(crate) fn next_info<'a>(
 ) -> Result<X509CertificationRequestInfo<'a>, Refusal<X509Error>>
     ensures read { Gives (λ v. (info_view v, parts.new.octets)) result (info_at deeply parts.old.octets) }
     ensures memory { IfOk result AttributesWantNoMemory }
+    ensures counted { IfOk result IsCountedInfo }
     ensures ends { length parts.new.octets ≤ length parts.old.octets }
 {
     let element = parts.next()?;

@@ -16,7 +16,7 @@ ghost use Rattle.x509_ext.specs.View.{extension_view, WantsNoMemory};
 ghost use Rattle.x509_requests.specs.Requests as grammar;
 ghost use Rattle.x509_requests.specs.Fields.{RequestAttribute, RequestInfo, Request};
 ghost use Rattle.x509_requests.specs.Reading.{requested_at, named_attribute_at, info_at, request_at};
-ghost use Rattle.x509_requests.specs.View.{attribute_view, info_view, request_view, AttributeWantsNoMemory, AttributesWantNoMemory};
+ghost use Rattle.x509_requests.specs.View.{attribute_view, info_view, request_view, AttributeWantsNoMemory, AttributesWantNoMemory, IsCountedInfo, IsCountedRequest};
 
 use crate::attribute::{ExtensionRequest, X509CriAttribute};
 use crate::attributes::front_attribute;
@@ -56,6 +56,7 @@ impl<'a> FromDer<'a, X509Error> for X509CertificationRequest<'a> {
             (λ i v r. grammar.X509CertificationRequest IsParsed i (request_view v) r) bytes.now result }
         ensures exact { Gives (λ r. (request_view r.1, r.0.now)) result (request_at deeply bytes.now) }
         ensures memory { IfOk result (λ r. AttributesWantNoMemory r.1.certification_request_info) }
+        ensures counted { IfOk result (λ r. IsCountedRequest r.1) }
         ensures window { IfOk result (λ r. bytes.now ≡ r.1.raw.now ++ r.0.now) }
         ensures found { IfOk result (λ r. grammar.X509CertificationRequest IsParsed bytes.now (request_view r.1) r.0.now) }
         ensures only { (v : Request) (rest : List ℕ) → grammar.X509CertificationRequest IsParsed bytes.now v rest
@@ -87,6 +88,7 @@ impl<'a> FromDer<'a, X509Error> for X509CertificationRequestInfo<'a> {
             (λ i v r. grammar.X509CertificationRequestInfo IsParsed i (info_view v) r) bytes.now result }
         ensures exact { Gives (λ r. (info_view r.1, r.0.now)) result (info_at deeply bytes.now) }
         ensures memory { IfOk result (λ r. AttributesWantNoMemory r.1) }
+        ensures counted { IfOk result (λ r. IsCountedInfo r.1) }
         ensures window { IfOk result (λ r. bytes.now ≡ r.1.raw.now ++ r.0.now) }
         ensures found { IfOk result (λ r. grammar.X509CertificationRequestInfo IsParsed bytes.now (info_view r.1) r.0.now) }
         ensures only { (v : RequestInfo) (rest : List ℕ) → grammar.X509CertificationRequestInfo IsParsed bytes.now v rest
@@ -159,6 +161,7 @@ impl<'a> FromDer<'a, X509Error> for ExtensionRequest<'a> {
 fn request_at_front<'a>(alloc: Global, i: &'a [u8]) -> X509Result<'a, X509CertificationRequest<'a>>
     ensures exact { Gives (λ r. (request_view r.1, r.0.now)) result (request_at deeply i.now) }
     ensures memory { IfOk result (λ r. AttributesWantNoMemory r.1.certification_request_info) }
+    ensures counted { IfOk result (λ r. IsCountedRequest r.1) }
     ensures missing { TellsMissing i.now result }
 {
     let mut count = HeaderCount::new();
@@ -172,6 +175,7 @@ fn request_at_front<'a>(alloc: Global, i: &'a [u8]) -> X509Result<'a, X509Certif
 fn info_at_front<'a>(alloc: Global, i: &'a [u8]) -> X509Result<'a, X509CertificationRequestInfo<'a>>
     ensures exact { Gives (λ r. (info_view r.1, r.0.now)) result (info_at deeply i.now) }
     ensures memory { IfOk result (λ r. AttributesWantNoMemory r.1) }
+    ensures counted { IfOk result (λ r. IsCountedInfo r.1) }
     ensures missing { TellsMissing i.now result }
 {
     let mut count = HeaderCount::new();

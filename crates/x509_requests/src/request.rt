@@ -9,7 +9,7 @@ ghost use Rattle.x509_names.specs.View.{bits_view};
 ghost use Rattle.x509_ext.specs.Values.{deeply};
 ghost use Rattle.x509_requests.specs.Lookup.{requested_of};
 ghost use Rattle.x509_requests.specs.Reading.{request_in};
-ghost use Rattle.x509_requests.specs.View.{request_view, AttributesWantNoMemory};
+ghost use Rattle.x509_requests.specs.View.{request_view, AttributesWantNoMemory, IsCountedRequest};
 
 use crate::attribute::{ParsedCriAttribute, X509CriAttribute};
 use crate::info::{X509CertificationRequestInfo, next_info};
@@ -87,6 +87,7 @@ pub(crate) fn request_of<'a>(
 ) -> Result<X509CertificationRequest<'a>, Refusal<X509Error>>
     ensures read { Gives request_view result (request_in deeply (piece_of element.entry)) }
     ensures memory { IfOk result (λ r. AttributesWantNoMemory r.certification_request_info) }
+    ensures counted { IfOk result IsCountedRequest }
 {
     let mut count = HeaderCount::new();
     let mut parts = parts_of(alloc, 16, element, &mut count)?;
