@@ -23,16 +23,18 @@ use Rattle.cert_reasons.specs.Links.{Revokes, HasLinkReason}
 use Rattle.cert_reasons.specs.Listed.{IsInForceAt, HasSerialAt}
 use Rattle.cert_reasons.proofs.Listing.{revokes_at}
 use Rattle.certpath_why.specs.Holders.{IsInRow}
-use Rattle.certpath_why.specs.Kinds.{AreTails, IsKind, lines_of, named_by, row_at}
+use Rattle.certpath_why.specs.Classes.{number_at}
+use Rattle.certpath_why.specs.Kinds.{AreTails, IsKind, lines_of, named_by}
 use Rattle.certpath_why.specs.Reached.{HasSubject}
-use Rattle.certpath_why.specs.Signers.{IsSignedBy, AreSignedBy}
+use Rattle.certpath_why.specs.Signers.{IsSignedBy, AreSignedFirsts}
 use Rattle.certpath_why.specs.Why.{IsLinkedTo, FailsTo, IsLinkedToAnchor, FailsToAnchor}
 use Rattle.certpath_why.specs.declared.classes.Classes.{Classes}
 use Rattle.certpath_why.specs.declared.holders.Holders.{Holders}
 use Rattle.certpath_why.proofs.Fating.{groups_as}
 use Rattle.certpath_why.proofs.Grouped.{cert_here, cert_iff}
 use Rattle.certpath_why.proofs.Numbering.{kind_parts}
-use Rattle.certpath_why.proofs.Signed.{signed_iff}
+use Rattle.certpath_why.proofs.Firsting.{firsts_iff}
+use Rattle.certpath_why.proofs.Signed.{signed_iff, signed_row}
 
 -- one certificate has one subject
 pub one_subject : (items : List Item) (w : ℕ) (n m : List ℕ) → HasSubject items n w → HasSubject items m w → n ≡ m
@@ -48,7 +50,7 @@ pub record AreAlike (V : Vouching) (moment : DateTime) (xs : List ReadItem) (oth
   pub revoked : (s : ℕ) → (IsInForceAt xs moment x.issuer.now s × HasSerialAt xs x.fields.serial.now s) ↔ (IsInForceAt xs moment y.issuer.now s × HasSerialAt xs y.fields.serial.now s)
 
 -- the rows of two items are equal
-in_row : (c : Classes) (h : Holders) (p q : ℕ) (n m : List ℕ) (w : ℕ) → ((r : Vec ℕ Global) → row_at c h p r ≡ row_at c h q r) → n ≡ m
+in_row : (c : Classes) (h : Holders) (p q : ℕ) (n m : List ℕ) (w : ℕ) → ((r : Vec ℕ Global) → (get_or h.rows.items (get_or c.numbers.items p 0) r).items ≡ (get_or h.rows.items (get_or c.numbers.items q 0) r).items) → n ≡ m
     → IsInRow h (get_or c.numbers.items p 0) n w → IsInRow h (get_or c.numbers.items q 0) m w
 in_row c h p q n m w same name i = (
   i.0,
@@ -56,25 +58,28 @@ in_row c h p q n m w same name i = (
   λ o. let a = i.2 o in (a.0 ∙ name, a.1),
 )
 
-pub alike : (V : Vouching) (moment : DateTime) (xs ys : List ReadItem) (c : Classes) (h : Holders) (Agree : Certificate → Certificate → Type 0) (n m : Option (List ℕ)) (p q : ℕ) (x y : CertificateItem) (kind : List ℕ)
-    → AreSignedBy V.Vouches xs ys c h → IsAt xs p (λ z. z ≡ certificate_read x) → IsAt xs q (λ z. z ≡ certificate_read y)
-    → IsKind xs (map item_of ys) moment c h n p x kind → IsKind xs (map item_of ys) moment c h m q y kind
-    → (n ≡ m → (d : Certificate) → Agree (certificate_of x) d ↔ Agree (certificate_of y) d) → (r : Vec ℕ Global)
+pub alike : (V : Vouching) (moment : DateTime) (xs ys : List ReadItem) (c : Classes) (firsts : List ℕ) (Agree : Certificate → Certificate → Type 0) (n m : Option (List ℕ)) (p q : ℕ) (x y : CertificateItem) (kind : List ℕ)
+    → AreSignedFirsts V.Vouches xs ys c firsts → IsAt xs p (λ z. z ≡ certificate_read x) → IsAt xs q (λ z. z ≡ certificate_read y)
+    → IsKind xs (map item_of ys) moment c firsts n p x kind → IsKind xs (map item_of ys) moment c firsts m q y kind
+    → (n ≡ m → (d : Certificate) → Agree (certificate_of x) d ↔ Agree (certificate_of y) d)
     → AreAlike V moment xs (map item_of ys) Agree x y
-alike V moment xs ys c h Agree n m p q x y kind are at bt a b agree r =
-    let parts = λ (r : Vec ℕ Global). kind_parts a.first b.first (row_at c h p r) (row_at c h q r) a.revoking b.revoking n m (sym (a.kind_is r) ∙ b.kind_is r) in
-    let first = (parts r).0 in
-    let named = (parts r).3 in
-    let lists = (parts r).2 in
+alike V moment xs ys c firsts Agree n m p q x y kind are at bt a b agree =
+    let h = are.holders in
+    let signed = are.signed_are in
+    let parts = kind_parts a.first b.first (number_at c firsts p) (number_at c firsts q) a.revoking b.revoking n m (sym a.kind_is ∙ b.kind_is) in
+    let first = parts.0 in
+    let named = parts.3 in
+    let lists = parts.2 in
+    let same = (firsts_iff h.rows.items firsts are.firsts_are (get_or c.numbers.items p 0) (get_or c.numbers.items q 0) (signed_row V.Vouches xs ys c h signed p at.0) (signed_row V.Vouches xs ys c h signed q bt.0)).0 parts.1 in
     let name : x.issuer.now ≡ y.issuer.now = one_subject (map item_of ys) b.first x.issuer.now y.issuer.now (subst (HasSubject (map item_of ys) x.issuer.now) first a.first_is) b.first_is in
     record {
       name = name;
       agree = agree named;
       signed = λ w.
-          let one = signed_iff V.Vouches xs ys c h are p (certificate_read x) x.issuer.now at (ap Some (sym x.issuer_is)) w in
-          let two = signed_iff V.Vouches xs ys c h are q (certificate_read y) y.issuer.now bt (ap Some (sym y.issuer_is)) w in (
-            λ s. two.0 (in_row c h p q x.issuer.now y.issuer.now w (λ r. (parts r).1) name (one.1 s)),
-            λ s. one.0 (in_row c h q p y.issuer.now x.issuer.now w (λ r. sym (parts r).1) (sym name) (two.1 s)),
+          let one = signed_iff V.Vouches xs ys c h signed p (certificate_read x) x.issuer.now at (ap Some (sym x.issuer_is)) w in
+          let two = signed_iff V.Vouches xs ys c h signed q (certificate_read y) y.issuer.now bt (ap Some (sym y.issuer_is)) w in (
+            λ s. two.0 (in_row c h p q x.issuer.now y.issuer.now w same name (one.1 s)),
+            λ s. one.0 (in_row c h q p y.issuer.now x.issuer.now w (λ r. sym (same r)) (sym name) (two.1 s)),
           );
       revoked = λ s. (
         λ g. (b.revoking_are.exact s).0 (subst (λ l. Contains l s) lists ((a.revoking_are.exact s).1 g)),
@@ -206,14 +211,14 @@ module _ (V : Vouching) (moment : DateTime) (demand : Bool) (xs : List ReadItem)
       → IsLinkedTo (rules_by moment demand V) (map item_of xs) (certificate_item y) w
   linked_alike x y a w h = linked_from y w (issues_alike V moment demand xs (map item_of xs) KeyIdsAgree x y a w (linked_to x w h))
 
-  pub items_alike : (c : Classes) (h : Holders) (p q : ℕ) (x y : CertificateItem) (kind : Vec ℕ Global) (tails : List (String Global)) → AreSignedBy V.Vouches xs xs c h → IsAt xs p (λ z. z ≡ certificate_read x) → IsAt xs q (λ z. z ≡ certificate_read y)
-      → IsKind xs (map item_of xs) moment c h (named_by x) p x kind.items → IsKind xs (map item_of xs) moment c h (named_by y) q y kind.items
+  pub items_alike : (c : Classes) (firsts : List ℕ) (p q : ℕ) (x y : CertificateItem) (kind : Vec ℕ Global) (tails : List (String Global)) → AreSignedFirsts V.Vouches xs xs c firsts → IsAt xs p (λ z. z ≡ certificate_read x) → IsAt xs q (λ z. z ≡ certificate_read y)
+      → IsKind xs (map item_of xs) moment c firsts (named_by x) p x kind.items → IsKind xs (map item_of xs) moment c firsts (named_by y) q y kind.items
       → AreTails (IsLinkedTo (rules_by moment demand V) (map item_of xs) (certificate_item x)) (FailsTo (rules_by moment demand V) (map item_of xs) (certificate_item x) (certificate_of x)) tails
       → AreTails (IsLinkedTo (rules_by moment demand V) (map item_of xs) (certificate_item y)) (FailsTo (rules_by moment demand V) (map item_of xs) (certificate_item y) (certificate_of y)) tails
-  items_alike c h p q x y kind tails are at bt a b t front =
+  items_alike c firsts p q x y kind tails are at bt a b t front =
       let r = rules_by moment demand V in
       let items = map item_of xs in
-      let same = alike V moment xs xs c h KeyIdsAgree (named_by x) (named_by y) p q x y kind.items are at bt a b (agree_alike x y) kind in
+      let same = alike V moment xs xs c firsts KeyIdsAgree (named_by x) (named_by y) p q x y kind.items are at bt a b (agree_alike x y) in
       let back = turned same in
       groups_as front (IsLinkedTo r items (certificate_item x)) (IsLinkedTo r items (certificate_item y)) (FailsTo r items (certificate_item x) (certificate_of x)) (FailsTo r items (certificate_item y) (certificate_of y)) (lines_of front tails)
       (λ w. (linked_alike x y same w, linked_alike y x back w))
@@ -243,15 +248,15 @@ module _ (V : Vouching) (moment : DateTime) (demand : Bool) (xs ys : List ReadIt
       → IsLinkedToAnchor (rules_by moment demand V) (map item_of xs) (map item_of ys) (certificate_item y) w
   anchor_alike x y a w h = anchor_from y w (issues_alike V moment demand xs (map item_of ys) anyhow x y a w (anchor_to x w h))
 
-  pub anchors_alike : (c : Classes) (h : Holders) (p q : ℕ) (x y : CertificateItem) (kind : Vec ℕ Global) (tails : List (String Global)) → AreSignedBy V.Vouches xs ys c h → IsAt xs p (λ z. z ≡ certificate_read x) → IsAt xs q (λ z. z ≡ certificate_read y)
-      → IsKind xs (map item_of ys) moment c h None p x kind.items → IsKind xs (map item_of ys) moment c h None q y kind.items
+  pub anchors_alike : (c : Classes) (firsts : List ℕ) (p q : ℕ) (x y : CertificateItem) (kind : Vec ℕ Global) (tails : List (String Global)) → AreSignedFirsts V.Vouches xs ys c firsts → IsAt xs p (λ z. z ≡ certificate_read x) → IsAt xs q (λ z. z ≡ certificate_read y)
+      → IsKind xs (map item_of ys) moment c firsts None p x kind.items → IsKind xs (map item_of ys) moment c firsts None q y kind.items
       → AreTails (IsLinkedToAnchor (rules_by moment demand V) (map item_of xs) (map item_of ys) (certificate_item x)) (FailsToAnchor (rules_by moment demand V) (map item_of xs) (map item_of ys) (certificate_item x) (certificate_of x)) tails
       → AreTails (IsLinkedToAnchor (rules_by moment demand V) (map item_of xs) (map item_of ys) (certificate_item y)) (FailsToAnchor (rules_by moment demand V) (map item_of xs) (map item_of ys) (certificate_item y) (certificate_of y)) tails
-  anchors_alike c h p q x y kind tails are at bt a b t front =
+  anchors_alike c firsts p q x y kind tails are at bt a b t front =
       let r = rules_by moment demand V in
       let items = map item_of xs in
       let roots = map item_of ys in
-      let same = alike V moment xs ys c h anyhow None None p q x y kind.items are at bt a b (λ e d. ((λ u. u), (λ u. u))) kind in
+      let same = alike V moment xs ys c firsts anyhow None None p q x y kind.items are at bt a b (λ e d. ((λ u. u), (λ u. u))) in
       let back = turned same in
       groups_as front (IsLinkedToAnchor r items roots (certificate_item x)) (IsLinkedToAnchor r items roots (certificate_item y)) (FailsToAnchor r items roots (certificate_item x) (certificate_of x)) (FailsToAnchor r items roots (certificate_item y) (certificate_of y)) (lines_of front tails)
       (λ w. (anchor_alike x y same w, anchor_alike y x back w))

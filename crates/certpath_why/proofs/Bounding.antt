@@ -7,6 +7,7 @@ use Rattle.std.proofs.lemmas.List.Elements.{Contains-append_left, Contains-push,
 use Rattle.cert_graph.specs.Entries.{IsAt}
 use Rattle.cert_graph.specs.declared.reach.Reach.{Reach}
 use Rattle.cert_graph.specs.declared.reach.Reach.TheVariants.{No, UpTo}
+use Rattle.cert_graph.proofs.PlacesOfNodes.{element_at}
 use Rattle.cert_model.specs.Octets.{name_octets}
 use Rattle.cert_judge.specs.declared.items.CertificateItem.{CertificateItem}
 use Rattle.cert_judge.specs.declared.items.ReadItem.{ReadItem}
@@ -154,3 +155,12 @@ bound_iff r items target reach marks further are marked v = (
   λ m. let p = (marked v).0 m.0 in ((p.0, (are.exact p.0).0 p.1, p.2), m.1),
   λ b. ((marked v).1 (b.0.0, (are.exact b.0.0).1 b.0.1, b.0.2), b.1),
 )
+
+-- who holds back is an item
+pub held_below : (r : JudgingContext) (items : List Item) (reach : ℕ → Reach) (w v : ℕ) → IsHeldBack r items reach w v → v < length items
+held_below r items reach w v h = let x = element_at items w h.linked.0 in (h.linked.1 x.0).0
+
+-- where nobody leads to an anchor with nothing below it, nobody is held back
+pub no_bound : (r : JudgingContext) (items : List Item) (reach : ℕ → Reach) (marks : List Bool) (further : List ℕ) → ((u : ℕ) → IsMarked marks u → ⊥) → (((v : ℕ) × (v < length items) × (reach v ≡ UpTo 0)) → ⊥)
+    → (v : ℕ) → IsMarked marks v ↔ ((w : ℕ) × Contains further w × IsHeldBack r items reach w v)
+no_bound r items reach marks further none never v = (λ m. absurd (none v m), λ p. absurd (never (v, held_below r items reach p.0 v p.2, p.2.bounded)))

@@ -23,6 +23,7 @@ mod Fated
 mod Against
 mod Adding
 mod Classing
+mod Firsting
 mod Holding
 mod Signed
 mod Grouped

@@ -28,8 +28,8 @@ named_is None (Some y) e = cc
 named_is (Some x) None e = cc
 named_is (Some x) (Some y) e = ap Some (tail_is e)
 
-pub kind_parts : (f g : ℕ) (ss ts rs us : List ℕ) (n m : Option (List ℕ)) → kind_numbers f ss rs n ≡ kind_numbers g ts us m → (f ≡ g) × (ss ≡ ts) × (rs ≡ us) × (n ≡ m)
-kind_parts f g ss ts rs us n m e =
-    let signers = rows_are ss ts (row_numbers rs ++ named_numbers n) (row_numbers us ++ named_numbers m) (tail_is e) in
-    let revoking = rows_are rs us (named_numbers n) (named_numbers m) signers.1 in
-    (head_is e, signers.0, revoking.0, named_is n m revoking.1)
+pub kind_parts : (f g s t : ℕ) (rs us : List ℕ) (n m : Option (List ℕ)) → kind_numbers f s rs n ≡ kind_numbers g t us m → (f ≡ g) × (s ≡ t) × (rs ≡ us) × (n ≡ m)
+kind_parts f g s t rs us n m e =
+    let after = tail_is e in
+    let revoking = rows_are rs us (named_numbers n) (named_numbers m) (tail_is after) in
+    (head_is e, head_is after, revoking.0, named_is n m revoking.1)

@@ -23,7 +23,7 @@ use Rattle.cert_reasons.proofs.Certain.{viewed_by}
 use Rattle.certpath_why.specs.Holders.{IsInRow, IsSignerOf}
 use Rattle.certpath_why.specs.Reached.{ArePositions}
 use Rattle.cert_reasons.proofs.Marks.{there_at}
-use Rattle.certpath_why.specs.Signers.{IsSignedBy, AreOfIssuer, AreSignedBy, SignsAny, issued_place, member_place, issuer_name}
+use Rattle.certpath_why.specs.Signers.{IsSignedBy, AreOfIssuer, AreSignedBy, AreSignedFirsts, SignsAny, issued_place, member_place, issuer_name}
 use Rattle.certpath_why.specs.declared.classes.Classes.{Classes}
 use Rattle.certpath_why.specs.declared.holders.Holders.{Holders}
 use Rattle.certpath_why.proofs.Items.{held, empty, no_list, no_other, positions_as}
@@ -174,3 +174,11 @@ module _ (V : List ℕ → List ℕ → Type 0) (read others : List ReadItem) (c
         (v.0, v.1, (at_place name v.0 (of v.0 v.1) w).0 (subst (λ m. IsInRow h m name w) (sym v.3) x.2)),
     λ s. (get_or c.numbers.items s.0 0, all s.0 s.1 (signed_number s.0 (of s.0 s.1).0), (at_place name s.0 (of s.0 s.1) w).1 s.2),
   )
+
+-- ---- numbers of equal rows
+
+pub signed_first : (V : List ℕ → List ℕ → Type 0) (read others : List ReadItem) (c : Classes) (firsts : List ℕ) → AreSignedFirsts V read others c firsts → (v : ℕ) → v < length read → get_or c.numbers.items v 0 < length firsts
+signed_first V read others c firsts are v lt =
+    let row = signed_row V read others c are.holders are.signed_are v lt in
+    let count = are.firsts_are.count in
+    omega arith

@@ -22,5 +22,9 @@ pub record AreNumbersOf (all texts : List (Bor (List ℕ))) (k : ℕ) (numbers :
   pub count : length numbers ≡ k
   pub each : (i : ℕ) (o : Bor (List ℕ)) → i < k → IsNumberOf texts (slice_index_or numbers i 0) (slice_index_or all i o).now
 
+-- the octets at a position by another number for each
+abbrev pub number_at : Classes → List ℕ → ℕ → ℕ
+number_at classes others p = slice_index_or others (slice_index_or classes.numbers.items p 0) 0
+
 abbrev pub AreClasses : List (Bor (List ℕ)) → Classes → Type 0
 AreClasses all c = AreNumbersOf all c.texts.items (length all) c.numbers.items

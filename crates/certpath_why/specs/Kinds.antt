@@ -1,5 +1,5 @@
 -- What the lines of links depend on, and the lines themselves. Contracts of private functions cite it.
-use Rattle.std.specs.Prelude.{◌≡◌, ◌↔◌, ℕ, List, [], ◌∷◌, ◌++◌, length, slice_index_or, option_map, Contains, Option, Some, None, Vec, String, string_bytes}
+use Rattle.std.specs.Prelude.{◌≡◌, ℕ, List, [], ◌∷◌, ◌++◌, length, option_map, Option, Some, None, Vec, String, string_bytes}
 use Rattle.std.specs.List.{flat_map}
 use Rattle.std.specs.Ordering.{nat_cmp}
 use Rattle.std.specs.declared.cmp.Ordering.{Ordering}
@@ -17,12 +17,11 @@ use Rattle.cert_judge.specs.Items.{certificate_of, certificate_item}
 use Rattle.cert_judge.specs.Revoking.{Item}
 use Rattle.cert_reasons.specs.declared.links.Unlinked.{Unlinked}
 use Rattle.cert_reasons.specs.Listed.{ArePlaces, IsInForceAt, HasSerialAt}
+use Rattle.certpath_why.specs.Classes.{number_at}
 use Rattle.certpath_why.specs.Question.{anchors_in, items_in, rules_in}
 use Rattle.certpath_why.specs.Reached.{HasSubject}
 use Rattle.certpath_why.specs.Why.{AreLinkLines, IsLinkedTo, FailsTo, IsLinkedToAnchor, FailsToAnchor}
 use Rattle.certpath_why.specs.declared.classes.Classes.{Classes}
-use Rattle.certpath_why.specs.declared.holders.Holder.{Holder}
-use Rattle.certpath_why.specs.declared.holders.Holders.{Holders}
 use Rattle.certpath_why.specs.declared.question.Question.{Question}
 
 -- ---- lines
@@ -53,54 +52,35 @@ named_numbers (Some id) = 1 ∷ id
 abbrev pub row_numbers : List ℕ → List ℕ
 row_numbers row = length row ∷ row
 
-abbrev pub kind_numbers : ℕ → List ℕ → List ℕ → Option (List ℕ) → List ℕ
-kind_numbers first signers revoking named = (first ∷ row_numbers signers) ++ (row_numbers revoking ++ named_numbers named)
+abbrev pub kind_numbers : ℕ → ℕ → List ℕ → Option (List ℕ) → List ℕ
+kind_numbers first signed revoking named = first ∷ signed ∷ (row_numbers revoking ++ named_numbers named)
 
 abbrev pub kind_cmp : Vec ℕ Global → Vec ℕ Global → Ordering
 kind_cmp a b = slice_cmp nat_cmp a.items b.items
-
--- the holders whose keys vouch for the item at a position
-abbrev pub row_at : Classes → Holders → ℕ → Vec ℕ Global → List ℕ
-row_at classes h p r = (slice_index_or h.rows.items (slice_index_or classes.numbers.items p 0) r).items
-
--- the key of the holder of a number vouches for octets
-abbrev pub VouchesFor : (List ℕ → List ℕ → Type 0) → Holders → ℕ → List ℕ → Type 0
-VouchesFor S h k octets = (o : Holder) → S (slice_index_or h.all.items k o).key.now octets
 
 -- the key identifier that a certificate names for its issuer
 abbrev pub named_by : CertificateItem → Option (List ℕ)
 named_by x = option_map (λ s. s.now) x.authority_key_id
 
--- The numbers of a certificate's kind: the position of one of its issuer's name, the holders whose keys vouch for it, the lists in
--- force that have its serial number, and a key identifier.
-pub record IsKind (xs : List ReadItem) (others : List Item) (moment : DateTime) (classes : Classes) (h : Holders) (named : Option (List ℕ)) (p : ℕ) (x : CertificateItem) (kind : List ℕ) : Type 0 where
+-- The numbers of a certificate's kind: the position of one of its issuer's name, the number that it has in common with those
+-- for which the keys of the same holders vouch, the lists in force that have its serial number, and a key identifier.
+pub record IsKind (xs : List ReadItem) (others : List Item) (moment : DateTime) (classes : Classes) (firsts : List ℕ) (named : Option (List ℕ)) (p : ℕ) (x : CertificateItem) (kind : List ℕ) : Type 0 where
   pub first : ℕ
   pub first_is : HasSubject others x.issuer.now first
   pub revoking : List ℕ
   pub revoking_are : ArePlaces (λ s. IsInForceAt xs moment x.issuer.now s × HasSerialAt xs x.fields.serial.now s) revoking
-  pub kind_is : (r : Vec ℕ Global) → kind ≡ kind_numbers first (row_at classes h p r) revoking named
-
--- The numbers of a certificate's kind, by what vouches for less: the holders are those whose keys
--- vouch for the certificate by that too.
-pub record IsHeldKind (xs : List ReadItem) (others : List Item) (moment : DateTime) (classes : Classes) (h : Holders) (S : List ℕ → List ℕ → Type 0) (named : Option (List ℕ)) (p : ℕ) (x : CertificateItem) (kind : List ℕ) : Type 0 where
-  pub first : ℕ
-  pub first_is : HasSubject others x.issuer.now first
-  pub revoking : List ℕ
-  pub revoking_are : ArePlaces (λ s. IsInForceAt xs moment x.issuer.now s × HasSerialAt xs x.fields.serial.now s) revoking
-  pub row : List ℕ
-  pub row_are : (k : ℕ) → Contains row k ↔ (((r : Vec ℕ Global) → Contains (row_at classes h p r) k) × VouchesFor S h k x.octets.now)
-  pub kind_is : kind ≡ kind_numbers first row revoking named
+  pub kind_is : kind ≡ kind_numbers first (number_at classes firsts p) revoking named
 
 abbrev pub IsItemKind : {V : Type 0} → Question V → ℕ → CertificateItem → List ℕ → Type 0
-IsItemKind question p x kind = IsKind question.found.now.items.now (items_in question) question.policy.now.moment question.signers.now.classes question.signers.now.issuers (named_by x) p x kind
+IsItemKind question p x kind = IsKind question.found.now.items.now (items_in question) question.policy.now.moment question.signers.now.classes question.signers.now.issuer_firsts.items (named_by x) p x kind
 
 -- the kind of a certificate among items, whatever key identifier it names
 abbrev pub IsGroupKind : {V : Type 0} → Question V → ℕ → CertificateItem → List ℕ → Type 0
-IsGroupKind question p x kind = IsKind question.found.now.items.now (items_in question) question.policy.now.moment question.signers.now.classes question.signers.now.issuers None p x kind
+IsGroupKind question p x kind = IsKind question.found.now.items.now (items_in question) question.policy.now.moment question.signers.now.classes question.signers.now.issuer_firsts.items None p x kind
 
 -- of an anchor the key identifier doesn't count
 abbrev pub IsAnchorKind : {V : Type 0} → Question V → ℕ → CertificateItem → List ℕ → Type 0
-IsAnchorKind question p x kind = IsKind question.found.now.items.now (anchors_in question) question.policy.now.moment question.signers.now.classes question.signers.now.roots None p x kind
+IsAnchorKind question p x kind = IsKind question.found.now.items.now (anchors_in question) question.policy.now.moment question.signers.now.classes question.signers.now.root_firsts.items None p x kind
 
 -- ---- lines by kinds
 

@@ -6,6 +6,7 @@ pub mod Hosts
 pub mod Demanded
 pub mod Reached
 pub mod Adding
+pub mod Firsts
 pub mod Classes
 pub mod Holders
 pub mod Signers

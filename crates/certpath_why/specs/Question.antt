@@ -6,7 +6,7 @@ use Rattle.cert_judge.specs.declared.vouch.Vouch.{Ghosts}
 use Rattle.cert_reasons.specs.declared.linking.Linking.{Linking}
 use Rattle.certpath_why.specs.ByIssuer.{AreByIssuer}
 use Rattle.certpath_why.specs.Named.{AreNamed}
-use Rattle.certpath_why.specs.Signers.{AreSignedBy}
+use Rattle.certpath_why.specs.Signers.{AreSignedBy, AreSignedFirsts}
 use Rattle.certpath_why.specs.declared.question.Question.{Question}
 
 -- the items and the anchors that were read
@@ -39,3 +39,5 @@ IsNamed question = AreNamed question.found.now question.named.now
 pub record IsSigned {V : Type 0} (vouch : Ghosts V) (question : Question V) : Type 0 where
   pub issuers : AreSignedBy (vouch.vouches_for question.vouch.now).Vouches question.found.now.items.now question.found.now.items.now question.signers.now.classes question.signers.now.issuers
   pub roots : AreSignedBy (vouch.vouches_for question.vouch.now).Vouches question.found.now.items.now question.found.now.anchors.now question.signers.now.classes question.signers.now.roots
+  pub issuer_firsts : AreSignedFirsts (vouch.vouches_for question.vouch.now).Vouches question.found.now.items.now question.found.now.items.now question.signers.now.classes question.signers.now.issuer_firsts.items
+  pub root_firsts : AreSignedFirsts (vouch.vouches_for question.vouch.now).Vouches question.found.now.items.now question.found.now.anchors.now question.signers.now.classes question.signers.now.root_firsts.items

@@ -11,6 +11,7 @@ use Rattle.cert_judge.specs.Revoking.{Item}
 use Rattle.cert_judge.specs.declared.items.ReadItem.{ReadItem}
 use Rattle.cert_judge.specs.declared.items.ReadItem.TheVariants.{Certificate as certificate_read, List as list_read, Other as other_read}
 use Rattle.certpath_why.specs.Classes.{AreClasses}
+use Rattle.certpath_why.specs.Firsts.{AreFirsts}
 use Rattle.certpath_why.specs.Holders.{AreHolders, HasMember}
 use Rattle.certpath_why.specs.declared.classes.Classes.{Classes}
 use Rattle.certpath_why.specs.declared.holders.Holders.{Holders}
@@ -51,3 +52,9 @@ pub record AreSignedBy (V : List ℕ → List ℕ → Type 0) (items others : Li
   pub octets_are : map (λ o. o.now) octets ≡ map (λ x. (item_of x).octets) items
   pub classes_are : AreClasses octets classes
   pub holders_are : AreHolders V (map issued_place items) (map member_place others) octets classes (HasMember (map member_place others)) h
+
+-- The first numbers of the rows of such holders: items have one exactly if the keys of the same holders vouch for them.
+pub record AreSignedFirsts (V : List ℕ → List ℕ → Type 0) (items others : List ReadItem) (classes : Classes) (firsts : List ℕ) : Type 0 where
+  pub holders : Holders
+  pub signed_are : AreSignedBy V items others classes holders
+  pub firsts_are : AreFirsts holders.rows.items firsts

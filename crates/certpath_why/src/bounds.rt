@@ -9,7 +9,7 @@ ghost use Rattle.cert_judge.specs.Items.{certificate_item, rules_by};
 ghost use Rattle.cert_reasons.specs.Linking.{HasItsLists};
 ghost use Rattle.certpath_why.specs.Bounds.{reach_by, IsHeldBack, IsBound};
 ghost use Rattle.certpath_why.specs.Found.{AreMarked, IsFound, IsMarked};
-ghost use Rattle.certpath_why.specs.Held.{AreDone};
+ghost use Rattle.certpath_why.specs.Held.{AreDone, AreSearchFirsts};
 ghost use Rattle.certpath_why.specs.Lines.{reach_lines};
 ghost use Rattle.certpath_why.specs.Question.{items_in, link_items, link_rules, IsListed, IsSigned};
 ghost use Rattle.certpath_why.specs.Reached.{ArePositions, HasSubject, IsCertificateAt, IsFurther};
@@ -18,7 +18,7 @@ use crate::found::certificate_at;
 use crate::kinds::held_kind;
 use crate::marks::{marked_but, no_marks, put_mark};
 use crate::question::Question;
-use crate::signers::issuers_at;
+use crate::signers::{firsts_by, issuers_at};
 use cert_graph::{Answer, Reach};
 use cert_judge::{CertificateItem, Vouch};
 use cert_reasons::{Linking, Unlinked};
@@ -55,6 +55,18 @@ fn takes_none_below(reach: Reach) -> bool
         Reach::UpTo(most) => most == 0,
         Reach::Any => false,
     }
+}
+
+/// Whether one of so many leads to an anchor, but with nothing counted below it.
+fn has_bound(answer: &Answer, count: usize) -> bool
+    ensures { IsTrue result ↔ ((v : ℕ) × (v < count) × (reach_by answer.now v ≡ UpTo 0)) }
+{
+    for place in 0..count {
+        if takes_none_below(reach_in(answer, place)) {
+            return true;
+        }
+    }
+    false
 }
 
 /// Whether path lengths count a certificate: its subject isn't its issuer.
@@ -130,6 +142,7 @@ fn mark_from<V: Vouch, S: Vouch>(
     alloc: Global,
     question: &Question<'_, '_, V>,
     search: &S,
+    firsts: &[usize],
     answer: &Answer,
     place: usize,
 ) -> Result<(), AllocError>
@@ -138,9 +151,10 @@ fn mark_from<V: Vouch, S: Vouch>(
     requires listed { IsListed question.now }
     requires less { (key item : List ℕ) → (S.vouches_for search.now).Vouches key item → (V.vouches_for question.now.vouch.now).Vouches key item }
     requires certificate { IsCertificateAt (items_in question.now) place }
-    requires done { AreDone question.now (S.vouches_for search.now) (reach_by answer.now) done.old marks.old.items }
+    requires firsts { AreSearchFirsts question.now (S.vouches_for search.now) firsts.now }
+    requires done { AreDone question.now (S.vouches_for search.now) firsts.now (reach_by answer.now) done.old marks.old.items }
     requires count { length marks.now.items ≡ length question.now.found.now.items.now }
-    ensures done { OnOk result (AreDone question.now (S.vouches_for search.now) (reach_by answer.now) done.new marks.new.items) }
+    ensures done { OnOk result (AreDone question.now (S.vouches_for search.now) firsts.now (reach_by answer.now) done.new marks.new.items) }
     ensures marks { OnOk result (AreMarked (IsHeldBack (rules_by question.now.policy.now.moment question.now.policy.now.demand_lists (S.vouches_for search.now)) (items_in question.now) (reach_by answer.now) place) marks.old.items marks.new.items) }
 {
     let Some(certificate) = certificate_at(question.found.items, place) else {
@@ -160,7 +174,7 @@ fn mark_from<V: Vouch, S: Vouch>(
     let kind = held_kind(
         alloc,
         question,
-        search,
+        firsts,
         place,
         certificate,
         &linking,
@@ -192,10 +206,14 @@ fn bound_marks<V: Vouch, S: Vouch>(
         × IsHeldBack (rules_by question.now.policy.now.moment question.now.policy.now.demand_lists (S.vouches_for search.now)) (items_in question.now) (reach_by answer.now) w v)) }
 {
     let mut marks = no_marks(alloc, question.found.items.len())?;
+    if !has_bound(answer, marks.len()) {
+        return Ok(marks);
+    }
+    let firsts = firsts_by(alloc, question, search)?;
     let mut done = BTreeSet::new(alloc);
     for place in further {
         mark_from(
-            &mut marks, &mut done, alloc, question, search, answer, *place,
+            &mut marks, &mut done, alloc, question, search, &firsts, answer, *place,
         )?;
     }
     Ok(marks)

@@ -2,7 +2,7 @@
 
 ghost use Rattle.std.specs.Prelude.{◌≡◌, ◌<◌, ℕ, length, slice_index_or, Contains, IfOk, OnOk};
 ghost use Rattle.std.specs.List.Sorted.{IsStrictlyIncreasing};
-ghost use Rattle.certpath_why.specs.Classes.{AreClasses, AreKept, AreKnown, IsNumberOf};
+ghost use Rattle.certpath_why.specs.Classes.{AreClasses, AreKept, AreKnown, IsNumberOf, number_at};
 
 use crate::positions::put_in_order;
 use std::alloc::{AllocError, Global};
@@ -80,5 +80,15 @@ impl Classes<'_> {
         ensures { result ≡ slice_index_or self.now.numbers.items place 0 }
     {
         self.numbers[place]
+    }
+
+    /// The octets at a position by another number, of which one is given for each of their numbers.
+    pub(crate) fn number_by(&self, others: &[usize], place: usize) -> usize
+        requires place { place < length self.now.numbers.items }
+        requires number { slice_index_or self.now.numbers.items place 0 < length others.now }
+        ensures { result ≡ number_at self.now others.now place }
+    {
+        let number = self.number(place);
+        others[number]
     }
 }

@@ -9,7 +9,6 @@ ghost use Rattle.cert_graph.specs.declared.places.Place.{Place};
 ghost use Rattle.certpath_why.specs.Classes.{AreClasses};
 ghost use Rattle.certpath_why.specs.Directories.{IsDirectory};
 ghost use Rattle.certpath_why.specs.Holders.{IsOfKey, KeysAdded, NameAdded, AreHolders, HasMember, IsInRow, IsInRows, IsNamedAt, IsOfRow};
-ghost use Rattle.certpath_why.specs.Kinds.{VouchesFor};
 ghost use Rattle.certpath_why.specs.Reached.{ArePositions};
 
 use crate::classes::{Classes, numbers_at};
@@ -242,40 +241,6 @@ impl<'a> Holders<'a> {
     {
         let row = self.holders_at(alloc, numbers)?;
         let found = self.members_of(alloc, &row, name)?;
-        Ok(found)
-    }
-
-    /// Whether the key of the holder of a number vouches for octets.
-    fn vouches_by<S: Vouch>(&self, number: usize, octets: &[u8], search: &S) -> bool
-        requires { number < length self.now.all.items }
-        ensures { IsTrue result ↔ VouchesFor (S.vouches_for search.now).Vouches self.now number octets.now }
-    {
-        let holder = &self.all[number];
-        search.vouches(holder.key, octets)
-    }
-
-    /// Of the holders whose keys vouch for the octets of a number, those whose keys do so by another
-    /// voucher too: it is asked once for each.
-    pub(crate) fn row_by<S: Vouch>(
-        &self,
-        alloc: Global,
-        number: usize,
-        octets: &[u8],
-        search: &S,
-    ) -> Result<Vec<usize>, AllocError>
-        requires number { number < length self.now.rows.items }
-        requires within { (k : ℕ) (r : Vec ℕ Global) → Contains (slice_index_or self.now.rows.items number r).items k → k < length self.now.all.items }
-        ensures { IfOk result (λ found. (k : ℕ) → Contains found.items k
-            ↔ (((r : Vec ℕ Global) → Contains (slice_index_or self.now.rows.items number r).items k) × VouchesFor (S.vouches_for search.now).Vouches self.now k octets.now)) }
-    {
-        let mut found = Vec::new(alloc);
-        let row = row_at(&self.rows, number);
-        for holder in row {
-            if !self.vouches_by(*holder, octets, search) {
-                continue;
-            }
-            found.push(*holder)?;
-        }
         Ok(found)
     }
 

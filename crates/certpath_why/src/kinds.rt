@@ -1,18 +1,16 @@
 //! Kinds of certificates: those of one kind have equal lines of links, but for their own positions.
 //! A kind is a row of numbers that has all that the lines depend on: the issuer's name, by a
-//! position of it, the holders whose keys vouch for the certificate, the lists in force that have
-//! its serial number, and the key identifier that it names.
+//! position of it, the holders whose keys vouch for the certificate, by a number of their row, the
+//! lists in force that have its serial number, and the key identifier that it names.
 
-ghost use Rattle.std.specs.Prelude.{◌≡◌, ◌++◌, ◌<◌, [], None, map, option_map, length, IfOk, OnOk, Vec};
-ghost use Rattle.std.specs.declared.alloc.Global.{Global};
-ghost use Rattle.cert_judge.specs.Items.{item_of};
+ghost use Rattle.std.specs.Prelude.{◌≡◌, ◌++◌, ◌<◌, [], None, option_map, length, slice_index_or, IfOk, OnOk};
 ghost use Rattle.cert_reasons.specs.Linking.{HasItsLists};
-ghost use Rattle.certpath_why.specs.Kinds.{IsHeldKind, IsKind, kind_numbers, named_by, named_numbers, row_numbers};
+ghost use Rattle.certpath_why.specs.Kinds.{IsKind, kind_numbers, named_by, named_numbers, row_numbers};
 ghost use Rattle.certpath_why.specs.Question.{anchors_in, items_in, IsSigned};
 ghost use Rattle.certpath_why.specs.Reached.{HasSubject};
 
 use crate::question::Question;
-use crate::signers::{issuers_row, issuers_row_by, roots_row};
+use crate::signers::{issuers_number, roots_number};
 use cert_judge::{CertificateItem, Vouch};
 use cert_reasons::Linking;
 use std::alloc::{AllocError, Global};
@@ -51,15 +49,15 @@ fn push_named(kind: &mut Vec<usize>, named: Option<&[u8]>) -> Result<(), AllocEr
 fn kind_of(
     alloc: Global,
     first: usize,
-    signers: &[usize],
+    signed: usize,
     revoking: &[usize],
     named: Option<&[u8]>,
 ) -> Result<Vec<usize>, AllocError>
-    ensures { IfOk result (λ kind. kind.items ≡ kind_numbers first signers.now revoking.now (option_map (λ id. id.now) named.entry)) }
+    ensures { IfOk result (λ kind. kind.items ≡ kind_numbers first signed revoking.now (option_map (λ id. id.now) named.entry)) }
 {
     let mut kind = Vec::new(alloc);
     kind.push(first)?;
-    push_row(&mut kind, signers)?;
+    kind.push(signed)?;
     push_row(&mut kind, revoking)?;
     push_named(&mut kind, named)?;
     Ok(kind)
@@ -71,9 +69,9 @@ pub(crate) fn id_kind(
     first: usize,
     certificate: &CertificateItem<'_>,
 ) -> Result<Vec<usize>, AllocError>
-    ensures { IfOk result (λ kind. kind.items ≡ kind_numbers first [] [] (named_by certificate.now)) }
+    ensures { IfOk result (λ kind. kind.items ≡ kind_numbers first 0 [] (named_by certificate.now)) }
 {
-    let kind = kind_of(alloc, first, &[], &[], certificate.authority_key_id)?;
+    let kind = kind_of(alloc, first, 0, &[], certificate.authority_key_id)?;
     Ok(kind)
 }
 
@@ -92,12 +90,12 @@ pub(crate) fn item_kind<V: Vouch>(
     requires certificate { linking.now.certificate.now ≡ certificate.now }
     requires place { place < length question.now.found.now.items.now }
     requires first { HasSubject (items_in question.now) certificate.now.issuer.now first }
-    ensures { IfOk result (λ kind. IsKind linking.now.items.now (items_in question.now) linking.now.policy.moment question.now.signers.now.classes question.now.signers.now.issuers (named_by certificate.now) place certificate.now kind.items) }
+    ensures { IfOk result (λ kind. IsKind linking.now.items.now (items_in question.now) linking.now.policy.moment question.now.signers.now.classes question.now.signers.now.issuer_firsts.items (named_by certificate.now) place certificate.now kind.items) }
 {
-    let signers = issuers_row(question, place);
+    let signed = issuers_number(question, place);
     let revoking = linking.revoking();
     let named = certificate.authority_key_id;
-    let kind = kind_of(alloc, first, signers, revoking, named)?;
+    let kind = kind_of(alloc, first, signed, revoking, named)?;
     Ok(kind)
 }
 
@@ -116,11 +114,11 @@ pub(crate) fn group_kind<V: Vouch>(
     requires certificate { linking.now.certificate.now ≡ certificate.now }
     requires place { place < length question.now.found.now.items.now }
     requires first { HasSubject (items_in question.now) certificate.now.issuer.now first }
-    ensures { IfOk result (λ kind. IsKind linking.now.items.now (items_in question.now) linking.now.policy.moment question.now.signers.now.classes question.now.signers.now.issuers None place certificate.now kind.items) }
+    ensures { IfOk result (λ kind. IsKind linking.now.items.now (items_in question.now) linking.now.policy.moment question.now.signers.now.classes question.now.signers.now.issuer_firsts.items None place certificate.now kind.items) }
 {
-    let row = issuers_row(question, place);
+    let number = issuers_number(question, place);
     let revoking = linking.revoking();
-    let kind = kind_of(alloc, first, row, revoking, None)?;
+    let kind = kind_of(alloc, first, number, revoking, None)?;
     Ok(kind)
 }
 
@@ -139,40 +137,35 @@ pub(crate) fn anchor_kind<V: Vouch>(
     requires certificate { linking.now.certificate.now ≡ certificate.now }
     requires place { place < length question.now.found.now.items.now }
     requires first { HasSubject (anchors_in question.now) certificate.now.issuer.now first }
-    ensures { IfOk result (λ kind. IsKind linking.now.items.now (anchors_in question.now) linking.now.policy.moment question.now.signers.now.classes question.now.signers.now.roots None place certificate.now kind.items) }
+    ensures { IfOk result (λ kind. IsKind linking.now.items.now (anchors_in question.now) linking.now.policy.moment question.now.signers.now.classes question.now.signers.now.root_firsts.items None place certificate.now kind.items) }
 {
-    let signers = roots_row(question, place);
+    let signed = roots_number(question, place);
     let revoking = linking.revoking();
-    let kind = kind_of(alloc, first, signers, revoking, None)?;
+    let kind = kind_of(alloc, first, signed, revoking, None)?;
     Ok(kind)
 }
 
-/// The kind of the certificate at a position, by its links to certificates as a search has them,
-/// which vouches for no more.
-pub(crate) fn held_kind<V: Vouch, S: Vouch>(
+/// The kind of the certificate at a position, by its links to certificates as a search has them. The
+/// numbers are those by what vouches in the search.
+pub(crate) fn held_kind<V: Vouch>(
     alloc: Global,
     question: &Question<'_, '_, V>,
-    search: &S,
+    firsts: &[usize],
     place: usize,
     certificate: &CertificateItem<'_>,
     linking: &Linking<'_, '_>,
     first: usize,
 ) -> Result<Vec<usize>, AllocError>
-    requires signed { IsSigned V.Vouch question.now }
     requires lists { HasItsLists linking.now }
     requires certificate { linking.now.certificate.now ≡ certificate.now }
-    requires place { place < length question.now.found.now.items.now }
+    requires place { place < length question.now.signers.now.classes.numbers.items }
+    requires number { slice_index_or question.now.signers.now.classes.numbers.items place 0 < length firsts.now }
     requires first { HasSubject (items_in question.now) certificate.now.issuer.now first }
-    ensures { IfOk result (λ kind. IsHeldKind linking.now.items.now (items_in question.now) linking.now.policy.moment question.now.signers.now.classes question.now.signers.now.issuers (S.vouches_for search.now).Vouches (named_by certificate.now) place certificate.now kind.items) }
+    ensures { IfOk result (λ kind. IsKind linking.now.items.now (items_in question.now) linking.now.policy.moment question.now.signers.now.classes firsts.now (named_by certificate.now) place certificate.now kind.items) }
 {
-    let signers = issuers_row_by(alloc, question, place, certificate.octets, search)?;
+    let signed = question.signers.classes.number_by(firsts, place);
     let revoking = linking.revoking();
-    let kind = kind_of(
-        alloc,
-        first,
-        &signers,
-        revoking,
-        certificate.authority_key_id,
-    )?;
+    let id = certificate.authority_key_id;
+    let kind = kind_of(alloc, first, signed, revoking, id)?;
     Ok(kind)
 }

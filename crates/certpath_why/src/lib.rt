@@ -20,6 +20,7 @@ mod cuts;
 mod demanded;
 mod differing;
 mod directory;
+mod firsts;
 mod found;
 mod holders;
 mod hosts;

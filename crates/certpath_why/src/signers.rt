@@ -2,23 +2,23 @@
 //! for all items at once. A key and an item without a voucher cost nothing, and equal items and
 //! equal keys are asked about once, and kept once.
 
-ghost use Rattle.std.specs.Prelude.{◌≡◌, ◌↔◌, ◌⊎◌, ◌<◌, ℕ, Some, length, map, Contains, IfOk, IsTrue, Vec};
-ghost use Rattle.std.specs.declared.alloc.Global.{Global};
+ghost use Rattle.std.specs.Prelude.{◌≡◌, ◌↔◌, ◌⊎◌, ◌<◌, ℕ, Some, length, map, IfOk, IsTrue};
 ghost use Rattle.cert_graph.specs.Entries.{IsAt};
 ghost use Rattle.cert_judge.specs.Items.{item_of};
 ghost use Rattle.cert_judge.specs.declared.items.ReadItem.{ReadItem};
-ghost use Rattle.certpath_why.specs.Kinds.{row_at, VouchesFor};
+ghost use Rattle.certpath_why.specs.Classes.{number_at};
+ghost use Rattle.certpath_why.specs.Held.{AreSearchFirsts};
 ghost use Rattle.certpath_why.specs.Question.{items_in, anchors_in, IsSigned};
 ghost use Rattle.certpath_why.specs.Reached.{ArePositions};
 ghost use Rattle.certpath_why.specs.Sides.{others_of, IsSide};
-ghost use Rattle.certpath_why.specs.Signers.{AreOfIssuer, AreSignedBy, IsSignedBy, SignsAny, issued_place, issuer_name, member_place};
+ghost use Rattle.certpath_why.specs.Signers.{AreOfIssuer, AreSignedBy, AreSignedFirsts, IsSignedBy, SignsAny, issued_place, issuer_name, member_place};
 
 use crate::classes::{Classes, classes_of, numbers_at};
 use crate::demanded::octets_of;
 use crate::directory::Directory;
+use crate::firsts::firsts_of;
 use crate::holders::{Holders, holders_of};
 use crate::question::Question;
-use crate::rows::row_at;
 use crate::side::Side;
 use cert_graph::Place;
 use cert_judge::{ReadItem, Vouch};
@@ -34,6 +34,10 @@ pub(crate) struct Signers<'a> {
     pub(crate) issuers: Holders<'a>,
     /// Those among the anchors.
     pub(crate) roots: Holders<'a>,
+    /// For each number of octets the first for which the keys of the same issuers vouch.
+    pub(crate) issuer_firsts: Vec<usize>,
+    /// Those of the same anchors.
+    pub(crate) root_firsts: Vec<usize>,
 }
 
 /// Returns the place of an item by its issuer, if it is a certificate or a list.
@@ -114,6 +118,8 @@ impl<'a> Signers<'a> {
     ) -> Result<Signers<'a>, AllocError>
         ensures issuers { IfOk result (λ s. AreSignedBy (V.vouches_for vouch.now).Vouches items.now items.now s.classes s.issuers) }
         ensures roots { IfOk result (λ s. AreSignedBy (V.vouches_for vouch.now).Vouches items.now anchors.now s.classes s.roots) }
+        ensures issuer_firsts { IfOk result (λ s. AreSignedFirsts (V.vouches_for vouch.now).Vouches items.now items.now s.classes s.issuer_firsts.items) }
+        ensures root_firsts { IfOk result (λ s. AreSignedFirsts (V.vouches_for vouch.now).Vouches items.now anchors.now s.classes s.root_firsts.items) }
     {
         let octets = octets_of_all(alloc, items)?;
         let classes = classes_of(alloc, &octets)?;
@@ -123,12 +129,37 @@ impl<'a> Signers<'a> {
         let issuers = holders_of(alloc, &directory, &classes, &members, vouch)?;
         let members = member_places(alloc, anchors)?;
         let roots = holders_of(alloc, &directory, &classes, &members, vouch)?;
+        let issuer_firsts = firsts_of(alloc, &issuers.rows)?;
+        let root_firsts = firsts_of(alloc, &roots.rows)?;
         Ok(Signers {
             classes,
             issuers,
             roots,
+            issuer_firsts,
+            root_firsts,
         })
     }
+}
+
+/// For each number of octets the first for which the keys of the same certificates vouch by another
+/// voucher. It is asked once for each name, with each key of the name and the octets of each of its
+/// items once.
+pub(crate) fn firsts_by<V: Vouch, S: Vouch>(
+    alloc: Global,
+    question: &Question<'_, '_, V>,
+    search: &S,
+) -> Result<Vec<usize>, AllocError>
+    requires { IsSigned V.Vouch question.now }
+    ensures { IfOk result (λ firsts. AreSearchFirsts question.now (S.vouches_for search.now) firsts.items) }
+{
+    let items = question.found.items;
+    let issued = issued_places(alloc, items)?;
+    let directory = Directory::new(alloc, &issued)?;
+    let members = member_places(alloc, items)?;
+    let classes = &question.signers.classes;
+    let issuers = holders_of(alloc, &directory, classes, &members, search)?;
+    let firsts = firsts_of(alloc, &issuers.rows)?;
+    Ok(firsts)
 }
 
 /// The certificates that signed the item at a position, whose issuer's name is given: a step for
@@ -202,45 +233,25 @@ pub(crate) fn signers_of_any<V: Vouch>(
     Ok(found)
 }
 
-/// The holders among the certificates whose keys vouch for the item at a position.
-pub(crate) fn issuers_row<'q, V: Vouch>(question: &Question<'q, '_, V>, place: usize) -> &'q [usize]
+/// The number that the item at a position has in common with those for which the keys of the same
+/// certificates vouch.
+pub(crate) fn issuers_number<V: Vouch>(question: &Question<'_, '_, V>, place: usize) -> usize
     requires signed { IsSigned V.Vouch question.now }
     requires place { place < length question.now.found.now.items.now }
-    ensures { (r : Vec ℕ Global) → result.now ≡ row_at question.now.signers.now.classes question.now.signers.now.issuers place r }
+    ensures { result ≡ number_at question.now.signers.now.classes question.now.signers.now.issuer_firsts.items place }
 {
     let signers = question.signers;
-    let number = signers.classes.number(place);
-    row_at(&signers.issuers.rows, number)
+    signers.classes.number_by(&signers.issuer_firsts, place)
 }
 
-/// Of these holders, those whose keys vouch for the octets of that item by another voucher too.
-pub(crate) fn issuers_row_by<V: Vouch, S: Vouch>(
-    alloc: Global,
-    question: &Question<'_, '_, V>,
-    place: usize,
-    octets: &[u8],
-    search: &S,
-) -> Result<Vec<usize>, AllocError>
+/// Likewise with those for which the keys of the same anchors do.
+pub(crate) fn roots_number<V: Vouch>(question: &Question<'_, '_, V>, place: usize) -> usize
     requires signed { IsSigned V.Vouch question.now }
     requires place { place < length question.now.found.now.items.now }
-    ensures { IfOk result (λ row. (k : ℕ) → Contains row.items k ↔ (((r : Vec ℕ Global) → Contains (row_at question.now.signers.now.classes question.now.signers.now.issuers place r) k)
-        × VouchesFor (S.vouches_for search.now).Vouches question.now.signers.now.issuers k octets.now)) }
-{
-    let number = question.signers.classes.number(place);
-    let issuers = &question.signers.issuers;
-    let row = issuers.row_by(alloc, number, octets, search)?;
-    Ok(row)
-}
-
-/// The holders among the anchors whose keys vouch for the item at a position.
-pub(crate) fn roots_row<'q, V: Vouch>(question: &Question<'q, '_, V>, place: usize) -> &'q [usize]
-    requires signed { IsSigned V.Vouch question.now }
-    requires place { place < length question.now.found.now.items.now }
-    ensures { (r : Vec ℕ Global) → result.now ≡ row_at question.now.signers.now.classes question.now.signers.now.roots place r }
+    ensures { result ≡ number_at question.now.signers.now.classes question.now.signers.now.root_firsts.items place }
 {
     let signers = question.signers;
-    let number = signers.classes.number(place);
-    row_at(&signers.roots.rows, number)
+    signers.classes.number_by(&signers.root_firsts, place)
 }
 
 fn is_either(one: bool, other: bool) -> bool

@@ -167,18 +167,20 @@ fn push_why_by<'q, 'a, V: Vouch, S: Vouch>(
 /// The only error is out of memory; the text then ends anywhere. Certificates and lists are found
 /// by sorted maps of names. `vouched_by_each` is called twice for each name, with the keys of its
 /// certificates among the items and then among the anchors, each key once, and the octets of the
-/// certificates and lists that it issued, each once. The entries of the lists of each issuer of what
-/// is reported are gone over and sorted once, and so are the key identifiers of the certificates
-/// and anchors of its name. Each certificate that is reported costs a look-up of its serial number
-/// and of its kind: its issuer's name, the keys that vouch for it, the lists in force that have its
-/// serial number, and the key identifier that it names. What kinds have in common is worked out
-/// once. Equal keys and lists cost a binary search for each certificate and anchor of the name whose
-/// key vouches for the certificate or for one of the lists, and a sort of their key identifiers. A
-/// list that revokes costs a step for each whose key vouches for it; a key identifier, a binary
-/// search for each of the name that has it. If lists are demanded, each name costs a step for each
-/// list of it, entry of these, and key that vouches for one. Besides, a kind costs a look-up for each
-/// list in force that has the serial number, and a step for each to which it is linked: none, if it
-/// names no key identifier, or one that none of these has.
+/// certificates and lists that it issued, each once. It is called once more with those of the
+/// items, by the answer's relation, if one of them leads to an anchor, but with nothing counted
+/// below it. The entries of the lists of each issuer of what is reported are gone over and sorted
+/// once, and so are the key identifiers of the certificates and anchors of its name. Each
+/// certificate that is reported costs a look-up of its serial number and of its kind: its issuer's
+/// name, the keys that vouch for it, the lists in force that have its serial number, and the key
+/// identifier that it names. What kinds have in common is worked out once. Equal keys and lists
+/// cost a binary search for each certificate and anchor of the name whose key vouches for the
+/// certificate or for one of the lists, and a sort of their key identifiers. A list that revokes
+/// costs a step for each whose key vouches for it; a key identifier, a binary search for each of
+/// the name that has it. If lists are demanded, each name costs a step for each list of it, entry
+/// of these, and key that vouches for one. Besides, a kind costs a look-up for each list in force
+/// that has the serial number, and a step for each to which it is linked: none, if it names no key
+/// identifier, or one that none of these has.
 /// Each list costs what `why_list_unused` costs.
 pub fn push_why<V: Vouch>(
     text: &mut String,

@@ -4,3 +4,11 @@ pub mod OfBound
 pub mod OfItems
 pub mod OfFound
 pub mod OfLines
+pub mod Ascending
+pub mod Words
+pub mod Sizes
+pub mod OneDemand
+pub mod OneWhy
+pub mod OneReport
+pub mod OfReports
+pub mod OfTarget

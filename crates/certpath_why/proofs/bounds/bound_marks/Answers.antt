@@ -1,15 +1,32 @@
-use Rattle.std.proofs.Common.{get_or, arith}
+use Rattle.std.proofs.Common.{◌∙◌, get_or, arith}
+use Rattle.std.proofs.lemmas.List.{length-map}
 use Rattle.std.proofs.lemmas.List.Elements.{Contains-get_or}
-use Rattle.cert_judge.specs.Items.{rules_by}
+use Rattle.cert_judge.specs.Items.{item_of, rules_by}
+use Rattle.cert_judge.proofs.Mapped.{not_both}
 use Rattle.certpath_why.specs.Question.{items_in}
 use Rattle.certpath_why.specs.Bounds.{reach_by, IsHeldBack}
-use Rattle.certpath_why.proofs.Bounding.{of_none, of_more, of_all}
+use Rattle.certpath_why.proofs.Bounding.{no_bound, of_none, of_more, of_all}
 use Rattle.certpath_why.proofs.Searching.{none_done}
 use Rattle.certpath_why.proofs.Spreading.{further_certificate}
 use Rattle.certpath_why.proofs.bounds.bound_marks.Goals as goal
 
+pub returns-then-not-has_bound : goal.returns-then-not-has_bound
+returns-then-not-has_bound g c =
+    let q = c.args.question.now in
+    let long = length-map q.found.now.items.now item_of in
+    let many = c.in_ok-marks.ensures.count in
+    let marks = c.len.ensures ∙ c.in_ok-marks.marks.ok.0 in
+    no_bound (rules_by q.policy.now.moment q.policy.now.demand_lists (g.S.Vouch.vouches_for c.args.search.now)) (items_in q) (reach_by c.args.answer.now) c.in_ok-marks.marks.items c.args.further.now c.in_ok-marks.ensures.none
+    (λ h. not_both _ (c.has_bound.ensures.1 (h.0, (let lt = h.1 in omega arith), h.2)) c.if-not-has_bound.true)
+
+pub mark_from-requires-clause-firsts : goal.mark_from-requires-clause-firsts
+mark_from-requires-clause-firsts g c = rw c.deref.ensures.value c.in_ok-firsts.ensures
+
+pub mark_from-requires-clause-done : goal.mark_from-requires-clause-done
+mark_from-requires-clause-done g c = rw c.deref.ensures.value c.loop-place.invariant.0
+
 pub loop-place-init : goal.loop-place-init
-loop-place-init g c = (none_done c.args.question.now (g.S.Vouch.vouches_for c.args.search.now) (reach_by c.args.answer.now) c.new-done.result c.in_ok-marks.marks.items c.new-done.ensures.empty, of_none (IsHeldBack (rules_by c.args.question.now.policy.now.moment c.args.question.now.policy.now.demand_lists (g.S.Vouch.vouches_for c.args.search.now)) (items_in c.args.question.now) (reach_by c.args.answer.now)) c.args.further.now c.in_ok-marks.marks.items)
+loop-place-init g c = (none_done c.args.question.now (g.S.Vouch.vouches_for c.args.search.now) c.in_ok-firsts.firsts.items (reach_by c.args.answer.now) c.new-done.result c.in_ok-marks.marks.items c.new-done.ensures.empty, of_none (IsHeldBack (rules_by c.args.question.now.policy.now.moment c.args.question.now.policy.now.demand_lists (g.S.Vouch.vouches_for c.args.search.now)) (items_in c.args.question.now) (reach_by c.args.answer.now)) c.args.further.now c.in_ok-marks.marks.items)
 
 pub mark_from-requires-clause-certificate : goal.mark_from-requires-clause-certificate
 mark_from-requires-clause-certificate g c =
@@ -23,7 +40,7 @@ mark_from-requires-clause-count g c =
     omega arith
 
 pub loop-place-preserved : goal.loop-place-preserved
-loop-place-preserved g c = (c.in_ok-mark_from.ensures.done, of_more (IsHeldBack (rules_by c.args.question.now.policy.now.moment c.args.question.now.policy.now.demand_lists (g.S.Vouch.vouches_for c.args.search.now)) (items_in c.args.question.now) (reach_by c.args.answer.now)) c.args.further.now c.loop-place.place-index c.in_ok-marks.marks.items c.loop-place.marks.items c.mark_from.new.marks.items c.loop-place-test.true c.loop-place.invariant.1 c.in_ok-mark_from.ensures.marks)
+loop-place-preserved g c = (rw c.deref.ensures.value at c.in_ok-mark_from.ensures.done, of_more (IsHeldBack (rules_by c.args.question.now.policy.now.moment c.args.question.now.policy.now.demand_lists (g.S.Vouch.vouches_for c.args.search.now)) (items_in c.args.question.now) (reach_by c.args.answer.now)) c.args.further.now c.loop-place.place-index c.in_ok-marks.marks.items c.loop-place.marks.items c.mark_from.new.marks.items c.loop-place-test.true c.loop-place.invariant.1 c.in_ok-mark_from.ensures.marks)
 
 pub returns : goal.returns
 returns g c = of_all (IsHeldBack (rules_by c.args.question.now.policy.now.moment c.args.question.now.policy.now.demand_lists (g.S.Vouch.vouches_for c.args.search.now)) (items_in c.args.question.now) (reach_by c.args.answer.now)) c.args.further.now c.loop-place.place-index c.in_ok-marks.marks.items c.loop-place.marks.items c.loop-place-test.false c.in_ok-marks.ensures.none c.loop-place.invariant.1

@@ -12,6 +12,7 @@ use Rattle.certpath_why.specs.Found.{AreMarked}
 use Rattle.certpath_why.proofs.Fated.{linked_named}
 use Rattle.certpath_why.proofs.Items.{at_read, none_read}
 use Rattle.certpath_why.proofs.Searching.{done_more, held_by_kind, marks_there}
+use Rattle.certpath_why.proofs.Signed.{signed_first, signed_number}
 use Rattle.certpath_why.proofs.Tailing.{no_first, some_first}
 use Rattle.certpath_why.proofs.Grouped.{linked_signed, signed_less, signed_named}
 use Rattle.certpath_why.proofs.Bounding.{marks_none, marks_as, not_counted, counted_iff, held_iff}
@@ -41,7 +42,15 @@ pub held_kind-requires-clause-first : goal.held_kind-requires-clause-first
 held_kind-requires-clause-first g c = (c.issuers.ensures.exact c.in-Some-first.first.now).0 (some_first c.issuers.result.now c.in-Some-first.first.now c.in-Some-first.ensures.value)
 
 pub held_kind-requires-clause-place : goal.held_kind-requires-clause-place
-held_kind-requires-clause-place g c = c.in-Some.ensures.found.0
+held_kind-requires-clause-place g c =
+    let q = c.args.question.now in
+    let firsts = c.requires.firsts in
+    signed_number (g.S.Vouch.vouches_for c.args.search.now).Vouches q.found.now.items.now q.found.now.items.now q.signers.now.classes firsts.holders firsts.signed_are c.args.place c.in-Some.ensures.found.0
+
+pub held_kind-requires-clause-number : goal.held_kind-requires-clause-number
+held_kind-requires-clause-number g c =
+    let q = c.args.question.now in
+    signed_first (g.S.Vouch.vouches_for c.args.search.now).Vouches q.found.now.items.now q.found.now.items.now q.signers.now.classes c.args.firsts.now c.requires.firsts c.args.place c.in-Some.ensures.found.0
 
 pub returns-then-contains-clause-marks : goal.returns-then-contains-clause-marks
 returns-then-contains-clause-marks g c =
@@ -82,8 +91,8 @@ returns-clause-done g c =
     (held_iff r q.found.now.items.now (reach_by c.args.answer.now) c.args.place x c.in_ok-signers.signers.items c.in-Some.ensures.found (sym c.reach_in.ensures ∙ c.leads_nowhere.ensures.0 c.if-not-leads_nowhere.false) (c.is_counted.ensures.0 c.if-not-is_counted.false)
     (λ v l. (signers.exact v).1 (signed_less r.Vouches V items (certificate_item x) v c.requires.less (linked_signed r items x v l))))
     (rw (c.deref.ensures.value, c.in_ok-linking.ensures.items, c.in_ok-linking.ensures.certificate, c.in_ok-linking.ensures.policy) at c.in_ok-mark_among.ensures) in
-    done_more q (g.S.Vouch.vouches_for c.args.search.now) reach c.args.place c.args.done.now c.insert.new.self c.in_ok-kind.kind c.args.marks.now.items c.mark_among.new.marks.items c.requires.done marked (λ k. c.in_ok-insert.ensures.updates.0 k)
-    (λ w y at is v back. held_by_kind V q (g.S.Vouch.vouches_for c.args.search.now) reach c.args.place w x y c.in_ok-kind.kind c.requires.signed.issuers c.requires.less c.in-Some.ensures.found at kind is nowhere counts v back)
+    done_more q (g.S.Vouch.vouches_for c.args.search.now) c.args.firsts.now reach c.args.place c.args.done.now c.insert.new.self c.in_ok-kind.kind c.args.marks.now.items c.mark_among.new.marks.items c.requires.done marked (λ k. c.in_ok-insert.ensures.updates.0 k)
+    (λ w y at is v back. held_by_kind q (g.S.Vouch.vouches_for c.args.search.now) c.args.firsts.now reach c.args.place w x y c.in_ok-kind.kind c.requires.firsts c.in-Some.ensures.found at kind is nowhere counts v back)
 
 pub returns-clause-marks : goal.returns-clause-marks
 returns-clause-marks g c =

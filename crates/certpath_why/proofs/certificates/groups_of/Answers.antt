@@ -34,7 +34,7 @@ returns-clause-kept g c =
     record {
       tails = c.requires.kept.tails;
       issued = written_more xs (IsGroupKind q) (IsIssued (rules_in g.V.Vouch q) (items_in q) xs) c.args.kept.now.issued c.insert.new.self c.in_ok-kind.kind c.in_ok-issued.issued c.requires.kept.issued
-          (λ p y at k. issued_alike V q.policy.now.moment q.policy.now.demand_lists xs xs q.signers.now.classes q.signers.now.issuers c.args.place p x y c.in_ok-kind.kind c.in_ok-issued.issued c.requires.signed.issuers c.requires.at at kind k issued) (λ z. c.in_ok-insert.ensures.updates.0 z);
+          (λ p y at k. issued_alike V q.policy.now.moment q.policy.now.demand_lists xs xs q.signers.now.classes q.signers.now.issuer_firsts.items c.args.place p x y c.in_ok-kind.kind c.in_ok-issued.issued c.requires.signed.issuer_firsts c.requires.at at kind k issued) (λ z. c.in_ok-insert.ensures.updates.0 z);
       used = rw c.requires.others at c.in_ok-issued.ensures.used;
       lists = c.requires.kept.lists;
       differing = c.requires.kept.differing;

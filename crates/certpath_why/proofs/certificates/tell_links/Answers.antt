@@ -49,7 +49,7 @@ returns-clause-written g c =
     let are = c.in_ok-tails.ensures.tails in
     record {
       tails = written_more q.found.now.items.now (IsItemKind q) (λ x (tails : Vec (String Global) Global). AreItemTails g.V.Vouch q x tails.items) c.tails_to_items.new.kept.tails c.insert.new.self c.in_ok-kind.kind c.in_ok-tails.tails c.in_ok-tails.ensures.kept.tails
-          (λ p y at k. items_alike V q.policy.now.moment q.policy.now.demand_lists q.found.now.items.now q.signers.now.classes q.signers.now.issuers c.args.place p x y c.in_ok-kind.kind c.in_ok-tails.tails.items c.requires.signed.issuers c.requires.at at kind k are) (λ z. c.in_ok-insert.ensures.updates.0 z);
+          (λ p y at k. items_alike V q.policy.now.moment q.policy.now.demand_lists q.found.now.items.now q.signers.now.classes q.signers.now.issuer_firsts.items c.args.place p x y c.in_ok-kind.kind c.in_ok-tails.tails.items c.requires.signed.issuer_firsts c.requires.at at kind k are) (λ z. c.in_ok-insert.ensures.updates.0 z);
       issued = c.in_ok-tails.ensures.kept.issued;
       used = c.in_ok-tails.ensures.kept.used;
       lists = c.in_ok-tails.ensures.kept.lists;

@@ -1,3 +1,5 @@
+use Rattle.std.proofs.Common.{ap, ◌∙◌}
+use Rattle.certpath_why.specs.Kinds.{kind_numbers, named_by}
 use Rattle.certpath_why.proofs.kinds.held_kind.Goals as goal
 
 pub returns : goal.returns
@@ -6,7 +8,5 @@ returns g c = record {
   first_is = c.requires.first;
   revoking = c.revoking-revoking.result.now;
   revoking_are = rw c.requires.certificate at c.revoking-revoking.ensures;
-  row = c.in_ok-signers.signers.items;
-  row_are = c.in_ok-signers.ensures;
-  kind_is = rw c.deref.ensures.value at c.in_ok-kind.ensures;
+  kind_is = c.in_ok-kind.ensures ∙ ap (λ n. kind_numbers c.args.first n c.revoking-revoking.result.now (named_by c.args.certificate.now)) c.number_by-signed.ensures;
 }

@@ -8,5 +8,5 @@ returns g c = record {
   first_is = c.requires.first;
   revoking = c.revoking-revoking.result.now;
   revoking_are = rw c.requires.certificate at c.revoking-revoking.ensures;
-  kind_is = λ r. c.in_ok-kind.ensures ∙ ap (λ l. kind_numbers c.args.first l c.revoking-revoking.result.now (named_by c.args.certificate.now)) (c.issuers_row-signers.ensures r);
+  kind_is = c.in_ok-kind.ensures ∙ ap (λ n. kind_numbers c.args.first n c.revoking-revoking.result.now (named_by c.args.certificate.now)) c.issuers_number-signed.ensures;
 }

@@ -6,6 +6,8 @@ pub tell_reached-requires-clause-signed : goal.tell_reached-requires-clause-sign
 tell_reached-requires-clause-signed g c = record {
   issuers = rw c.in_ok-found.ensures.items c.in_ok-signers.ensures.issuers;
   roots = rw (c.in_ok-found.ensures.items, c.in_ok-found.ensures.anchors) c.in_ok-signers.ensures.roots;
+  issuer_firsts = rw c.in_ok-found.ensures.items c.in_ok-signers.ensures.issuer_firsts;
+  root_firsts = rw (c.in_ok-found.ensures.items, c.in_ok-found.ensures.anchors) c.in_ok-signers.ensures.root_firsts;
 }
 
 pub tell_reached-requires-clause-listed : goal.tell_reached-requires-clause-listed
@@ -24,6 +26,8 @@ pub tell_lists-requires : goal.tell_lists-requires
 tell_lists-requires g c = record {
   issuers = rw c.in_ok-found.ensures.items c.in_ok-signers.ensures.issuers;
   roots = rw (c.in_ok-found.ensures.items, c.in_ok-found.ensures.anchors) c.in_ok-signers.ensures.roots;
+  issuer_firsts = rw c.in_ok-found.ensures.items c.in_ok-signers.ensures.issuer_firsts;
+  root_firsts = rw (c.in_ok-found.ensures.items, c.in_ok-found.ensures.anchors) c.in_ok-signers.ensures.root_firsts;
 }
 
 pub returns : goal.returns
