@@ -1,6 +1,6 @@
 -- One place more among those brought together.
 use Rattle.std.specs.Prelude.{◌↔◌}
-use Rattle.std.proofs.Common.{◌≡◌, ◌∙◌, ap, sym, subst, refl, ℕ, ◌+◌, ◌<◌, Bool, cond, List, [], ◌∷◌, ◌++◌, length, length-append, arith, get_or, Option, Some, None, Bor, Ordering, inl, inr, ◌⊎◌}
+use Rattle.std.proofs.Common.{◌≡◌, ◌∙◌, ap, sym, subst, refl, ℕ, ◌+◌, ◌<◌, Bool, false, List, [], ◌∷◌, ◌++◌, length, length-append, arith, get_or, Option, Some, None, Bor, Ordering, inl, inr, ◌⊎◌}
 use Rattle.std.specs.Bool.{Decides}
 use Rattle.std.specs.Ordering.{on, nat_cmp, eq_by_cmp}
 use Rattle.std.specs.Cmp.Lexicographic.{slice_cmp}
@@ -8,7 +8,7 @@ use Rattle.std.specs.List.{Any, Contains}
 use Rattle.std.specs.List.Sorted.{IsStrictlyIncreasing}
 use Rattle.std.proofs.Math.ListN.{get_or-append}
 use Rattle.std.proofs.Math.Seq.{get_or-append_seam}
-use Rattle.std.proofs.lemmas.Bool.{cases_lt, cases_eq, cases_Bool, cond-true, cond-false, false_from_ne_true}
+use Rattle.std.proofs.lemmas.Bool.{cases_lt, cases_eq, cases_Bool}
 use Rattle.std.proofs.lemmas.List.Kept.{AllPairs-from_increasing}
 use Rattle.std.proofs.lemmas.List.Elements.{Contains-append_left, Contains-push, Contains-push_cases}
 use Rattle.std.proofs.lemmas.Map.Text.{is_eq-slice_cmp}
@@ -29,6 +29,9 @@ R = on (λ (b : Bor (List ℕ)). b.now) (slice_cmp nat_cmp)
 
 pub same : (a b : List ℕ) → Decides (E a b) (a ≡ b)
 same a b = subst (λ r. Decides r (a ≡ b)) (sym (is_eq-slice_cmp a b)) (bytes_eq-Decides a b)
+
+pub unlike : (t q : Bor (List ℕ)) → E t.now q.now ≡ false → t.now ≡ q.now → ⊥
+unlike t q un e = let is = (same t.now q.now).1 e in cc
 
 -- among the first of some places
 abbrev pub Met : List ℕ → ℕ → ℕ → Type 0
@@ -170,13 +173,11 @@ last_bucket bs b d i e = ap (λ j. get_or (bs ++ b ∷ []) j d) e ∙ get_or-app
 
 -- a place whose text is new
 pub gathered_new : (S : ℕ → List ℕ → Type 0) (one : (v : ℕ) (q r : List ℕ) → S v q → S v r → q ≡ r) (ps : List ℕ) (k v : ℕ) (f g : Bor (List ℕ) → Option ℕ) (t : Bor (List ℕ)) (bs : List Bucket) (b : Bucket)
-    → get_or ps k 0 ≡ v → S v t.now → f t ≡ None → ((q : Bor (List ℕ)) → g q ≡ cond (E t.now q.now) (Some (length bs)) (f q)) → b.text ≡ t → b.places.items ≡ v ∷ []
+    → get_or ps k 0 ≡ v → S v t.now → f t ≡ None → ((q : Bor (List ℕ)) → t.now ≡ q.now → g q ≡ Some (length bs)) → ((q : Bor (List ℕ)) → (t.now ≡ q.now → ⊥) → g q ≡ f q) → b.text ≡ t → b.places.items ≡ v ∷ []
     → Gathered S ps k f bs → Gathered S ps (k + 1) g (bs ++ b ∷ [])
-gathered_new S one ps k v f g t bs b at shows unknown update text places h =
+gathered_new S one ps k v f g t bs b at shows unknown own apart text places h =
     let long = length-append bs (b ∷ []) in
     let fresh : (i : ℕ) (d : Bucket) → i < length bs → (get_or bs i d).text.now ≡ t.now → ⊥ = λ i d lt e. not_none (sym (h.back i t d lt e) ∙ unknown) in
-    let apart : (q : Bor (List ℕ)) → (t.now ≡ q.now → ⊥) → g q ≡ f q = λ q n. update q ∙ cond-false _ _ _ (false_from_ne_true (E t.now q.now) (λ e. n ((same t.now q.now).0 e))) in
-    let own : (q : Bor (List ℕ)) → t.now ≡ q.now → g q ≡ Some (length bs) = λ q e. update q ∙ cond-true _ _ _ ((same t.now q.now).1 e) in
     record {
       each = λ i d below. elim (cases_lt i (length bs)) [
         | inl lt ↦
@@ -207,7 +208,7 @@ gathered_new S one ps k v f g t bs b at shows unknown update text places h =
             let last : n ≡ length bs = one_number (sym is ∙ own q mine) in
             (omega arith, λ d. ap (λ (z : Bucket). z.text.now) (last_bucket bs b d n last) ∙ ap (λ (z : Bor (List ℕ)). z.now) text ∙ mine)
         | inr un ↦
-            let old = h.known q n (sym (update q ∙ cond-false _ _ _ un) ∙ is) in
+            let old = h.known q n (sym (apart q (unlike t q un)) ∙ is) in
             let lt = old.0 in
             (omega arith, λ d. ap (λ (z : Bucket). z.text.now) (get_or-append bs (b ∷ []) d n old.0) ∙ old.1 d)
       ];
@@ -223,7 +224,7 @@ gathered_new S one ps k v f g t bs b at shows unknown update text places h =
       met = λ u q m s none. elim (met_cases ps k v u at m) [
         | inl old ↦ h.met u q old s (elim (cases_Bool (E t.now q.now)) [
           | inl eq ↦ absurd (not_none (sym (own q ((same t.now q.now).0 eq)) ∙ none))
-          | inr un ↦ sym (update q ∙ cond-false _ _ _ un) ∙ none
+          | inr un ↦ sym (apart q (unlike t q un)) ∙ none
         ])
         | inr e ↦ not_none (sym (own q (one v t.now q.now shows (subst (λ z. S z q.now) (sym e) s))) ∙ none)
       ];

@@ -29,6 +29,7 @@ pub mod ExampleInventory
 pub mod Sifted
 pub mod Adding
 pub mod Gathering
+pub mod TextFacts
 pub mod Placing
 pub mod Touching
 pub mod Following

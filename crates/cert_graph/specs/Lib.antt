@@ -19,4 +19,6 @@ pub mod Lookup
 pub mod Examples
 pub mod Places
 pub mod Buckets
+pub mod Endings
+pub mod Texts
 pub mod Links

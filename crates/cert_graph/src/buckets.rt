@@ -6,8 +6,8 @@ ghost use Rattle.cert_graph.specs.Places.{Shows};
 ghost use Rattle.cert_graph.specs.Buckets.{AreBuckets, IsPushed};
 
 use crate::places::{Part, Place, text_at};
+use crate::texts::TextNumbers;
 use std::alloc::{AllocError, Global};
-use std::collections::BTreeMap;
 
 /// Places whose part has these octets, in ascending order.
 #[derive(Drop)]
@@ -28,7 +28,8 @@ fn push_to(buckets: &mut Vec<Bucket<'_>>, number: usize, place: usize) -> Result
 
 /// Returns a bucket for each value that the chosen places have in a part, with the places that have
 /// it in ascending order; places without the part are in none. Takes as many comparisons of octets
-/// as a sorted map of them. The only error is out of memory.
+/// as a sorted map of them: by the last eight octets, and whole if these are equal. The only error
+/// is out of memory.
 pub fn alike<'a>(
     alloc: Global,
     all: &[Place<'a>],
@@ -38,12 +39,12 @@ pub fn alike<'a>(
     requires { IsStrictlyIncreasing chosen.now }
     ensures { IfOk result (λ buckets. AreBuckets (Shows part all.now) chosen.now buckets.items) }
 {
-    let mut known: BTreeMap<&'a [u8], usize> = BTreeMap::new(alloc);
+    let mut known = TextNumbers::new(alloc);
     let mut buckets = Vec::new(alloc);
     for place in chosen {
         if let Some(text) = text_at(all, part, *place) {
-            match known.get(&text) {
-                Some(number) => push_to(&mut buckets, *number, *place)?,
+            match known.get(text) {
+                Some(number) => push_to(&mut buckets, number, *place)?,
                 None => {
                     known.insert(text, buckets.len())?;
                     let places = vec![in alloc; *place]?;
