@@ -6,9 +6,9 @@ ghost use Rattle.cert_judge.specs.Standing.{WithCertificate, WithList};
 ghost use Rattle.cert_judge.specs.Copies.{IsSameList, AreAlike, AreAlikeAt, AreCopies, octets_at};
 
 use crate::judged::{JudgedCertificate, JudgedItem, JudgedList};
+use cert_graph::TextNumbers;
 use cert_graph::lists::put;
 use std::alloc::{AllocError, Global};
-use std::collections::BTreeMap;
 
 /// Places of items, brought together.
 #[derive(Drop)]
@@ -83,15 +83,6 @@ fn is_copy(items: &[JudgedItem<'_>], firsts: &[usize], number: usize, place: usi
     are_alike(one, other)
 }
 
-/// The last eight octets as a number; 0 of fewer. Of a certificate or a list they are the end of its
-/// signature, so those of different items seldom are equal.
-fn tail_of(octets: &[u8]) -> u64 {
-    match octets {
-        [.., a, b, c, d, e, f, g, h] => u64::from_le_bytes([*a, *b, *c, *d, *e, *f, *g, *h]),
-        _ => 0,
-    }
-}
-
 /// Equal items at some places, brought together. Takes as many comparisons of octets as a sorted
 /// map of them, and one with the first copy for each place. Octets are compared by the last eight,
 /// and whole if these are equal.
@@ -104,20 +95,19 @@ pub(crate) fn copies_of(
     requires within { All (λ v. v < length items.now) places.now }
     ensures { IfOk result (λ copies. AreCopies items.now places.now copies.firsts.items (map (λ l. l.items) copies.lists.items)) }
 {
-    let mut known: BTreeMap<(u64, &[u8]), usize> = BTreeMap::new(alloc);
+    let mut known = TextNumbers::new(alloc);
     let mut firsts = Vec::new(alloc);
     let mut lists = Vec::new(alloc);
     for place in places {
         let octets = items[*place].octets();
-        let key = (tail_of(octets), octets);
-        let number = match known.get(&key) {
-            Some(number) => *number,
+        let number = match known.get(octets) {
+            Some(number) => number,
             None => firsts.len(),
         };
         if is_copy(items, &firsts, number, *place) {
             put(&mut lists, number, *place)?;
         } else {
-            known.insert(key, firsts.len())?;
+            known.insert(octets, firsts.len())?;
             firsts.push(*place)?;
             lists.push(vec![in alloc; *place]?)?;
         }

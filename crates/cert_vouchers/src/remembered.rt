@@ -6,20 +6,12 @@ ghost use Rattle.sha2.specs.Sha256.{sha256};
 
 use crate::lookup::{Digests, has_pair, rows_of};
 use crate::vouchers::Vouchers;
+use cert_graph::tail_of;
 use cert_judge::Vouch;
 use sha2::{Digest, Sha256};
 use std::alloc::{AllocError, Global};
 use std::cell::RefCell;
 use std::cmp::Ordering;
-
-/// The last eight octets of a text as a number; 0 if it has fewer. Of a certificate or a list they
-/// are the end of its signature, of a key element the end of the key, so they seldom are equal.
-fn tail_of(text: &[u8]) -> u64 {
-    match text {
-        [.., a, b, c, d, e, f, g, h] => u64::from_le_bytes([*a, *b, *c, *d, *e, *f, *g, *h]),
-        _ => 0,
-    }
-}
 
 /// A text, and its digest once that was computed.
 #[derive(Drop)]
