@@ -11,10 +11,12 @@ A clause that is the name of a definition says what the definition does; of a re
 LEFT is how many clauses may have no example: none. `python3 tools/gate/quick.py laws` prints them.
 """
 import functools
+import os
 import re
 
 from dev import believe
 from gate import calls, syntax
+from program import repo
 
 LEFT = 0
 OPEN, CLOSE = "({⟦", ")}⟧"
@@ -109,13 +111,23 @@ def module_of(path):
     return ".".join(["Rattle", crate, part, *inner])
 
 
+@functools.cache
+def origin(module, name):
+    """The module and the name of a definition that a page hands on by a `use` line; else these."""
+    path = f"crates/{'/'.join(module.split('.')[1:])}.antt"
+    if not os.path.exists(os.path.join(repo.TOP, path)):
+        return module, name
+    page = believe.page(path)
+    return origin(*page.names[name]) if name in page.names and name not in page.definitions else (module, name)
+
+
 def named(names, modules, module, own):
     """A function that gives the whole name of a word: of a repository's definition with its module."""
     def name_of(word):
         head, dot, rest = word.partition(".")
         if head in modules and rest:
             return f"{modules[head]}.{rest}"
-        where, there = names.get(head, (module, head) if head in own else ("", head))
+        where, there = origin(*names.get(head, (module, head) if head in own else ("", head)))
         return f"{where}.{there}{dot}{rest}" if where.split(".")[1:2] and where.split(".")[1] in syntax.CRATES else word
     return name_of
 

@@ -1,4 +1,4 @@
-//! The last octets of a text, by which different texts are told apart without reading them whole.
+//! The last octets of a text, by which different texts are distinguished without reading them whole.
 
 ghost use Rattle.std.specs.Prelude.{◌≡◌};
 ghost use Rattle.cert_graph.specs.Endings.{tail_of};

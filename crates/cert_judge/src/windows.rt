@@ -18,7 +18,7 @@ use cert_model::parts::{first_part, whole};
 const ISSUER: usize = 2;
 
 /// What follows the first `count` of the elements that octets begin with.
-fn rest_behind(octets: &[u8], count: usize) -> Option<&[u8]>
+fn rest_after(octets: &[u8], count: usize) -> Option<&[u8]>
     ensures { (parts : List (List ℕ)) (rest : List ℕ) → AllByRecursion IsPart parts → length parts ≡ count → octets.now ≡ concat parts ++ rest
         → IsSomeAnd result (λ r. r.now ≡ rest) }
 {
@@ -26,7 +26,7 @@ fn rest_behind(octets: &[u8], count: usize) -> Option<&[u8]>
         Some(octets)
     } else {
         let (_, rest) = first_part(octets)?;
-        rest_behind(rest, count - 1)
+        rest_after(rest, count - 1)
     }
 }
 
@@ -64,7 +64,7 @@ pub fn windows_of<'a>(item: &'a [u8], fields: &CertFields<'_>) -> Option<Windows
 {
     let tbs = tbs_of(item)?;
     let first = first_of(fields.version);
-    let from_issuer = rest_behind(tbs, first + ISSUER)?;
+    let from_issuer = rest_after(tbs, first + ISSUER)?;
     let (issuer, from_validity) = first_part(from_issuer)?;
     let (_, from_subject) = first_part(from_validity)?;
     let (subject, from_key) = first_part(from_subject)?;
@@ -93,7 +93,7 @@ pub fn list_issuer_of<'a>(item: &'a [u8], fields: &ListFields<'_>) -> Option<&'a
     ensures { item.now ≡ list_octets (list_view fields.now) → IsSomeAnd result (λ w. w.now ≡ name_octets (list_view fields.now).issuer) }
 {
     let tbs = tbs_of(item)?;
-    let from_issuer = rest_behind(tbs, issuer_place(fields.version))?;
+    let from_issuer = rest_after(tbs, issuer_place(fields.version))?;
     let (issuer, _) = first_part(from_issuer)?;
     Some(issuer)
 }

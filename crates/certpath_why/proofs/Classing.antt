@@ -1,16 +1,15 @@
 -- Numbers of octets.
 use Rattle.std.specs.Prelude.{◌⊎◌}
-use Rattle.std.proofs.Common.{◌≡◌, ◌∙◌, ap, sym, subst, ℕ, ◌+◌, ◌<◌, ◌≤◌, cond, List, [], ◌∷◌, ◌++◌, length, length-append, arith, get_or, take, Some, None, Bor, inl, inr}
+use Rattle.std.proofs.Common.{◌≡◌, ◌∙◌, ap, sym, subst, ℕ, ◌+◌, ◌<◌, ◌≤◌, List, [], ◌∷◌, ◌++◌, length, length-append, arith, get_or, take, Some, None, Bor, inl, inr}
 use Rattle.std.specs.List.{Contains}
-use Rattle.std.specs.BTreeMap as mapped
-use Rattle.std.specs.BTreeMap.{BTreeMap, is_at}
-use Rattle.std.specs.Map.{lookup}
 use Rattle.std.proofs.Math.ListN.{get_or-append}
 use Rattle.std.proofs.Math.Seq.{get_or-append_seam}
-use Rattle.std.proofs.lemmas.Bool.{cases_lt, cases_Bool, cond-true, cond-false}
+use Rattle.std.proofs.lemmas.Bool.{cases_lt, cases_Bool}
 use Rattle.std.proofs.lemmas.List.{take_more, take_all}
 use Rattle.std.proofs.lemmas.List.Elements.{Contains-append_left, Contains-push, Contains-push_cases}
-use Rattle.cert_graph.proofs.Gathering.{E, R, same}
+use Rattle.cert_graph.specs.declared.texts.TextNumbers.{TextNumbers}
+use Rattle.cert_graph.specs.Texts.{number_of}
+use Rattle.cert_graph.proofs.Gathering.{E, same, unlike}
 use Rattle.certpath_why.specs.Classes.{AreKept, AreKnown, AreNumbersOf, IsNumberOf}
 
 some_none : {n : ℕ} → Some n ≡ None → ⊥
@@ -25,21 +24,19 @@ kept_push texts t n q h =
     let lt = h.0 in
     (omega arith, λ d. ap (λ (z : Bor (List ℕ)). z.now) (get_or-append texts (t ∷ []) d n lt) ∙ h.1 d)
 
-pub known_more : (texts : List (Bor (List ℕ))) (k : ℕ) (t : Bor (List ℕ)) (m n : BTreeMap (Bor (List ℕ)) ℕ) → k ≡ length texts → AreKnown texts m
-    → ((q : Bor (List ℕ)) → mapped.get R n q ≡ cond (E t.now q.now) (Some k) (mapped.get R m q)) → AreKnown (texts ++ t ∷ []) n
-known_more texts k t m n end h update q v is = elim (cases_Bool (E t.now q.now)) [
+pub known_more : (texts : List (Bor (List ℕ))) (k : ℕ) (t : Bor (List ℕ)) (m n : TextNumbers) → k ≡ length texts → AreKnown texts m
+    → ((q : Bor (List ℕ)) → t.now ≡ q.now → number_of n q ≡ Some k) → ((q : Bor (List ℕ)) → (t.now ≡ q.now → ⊥) → number_of n q ≡ number_of m q) → AreKnown (texts ++ t ∷ []) n
+known_more texts k t m n end h new others q v is = elim (cases_Bool (E t.now q.now)) [
   | inl eq ↦
-      let here : v ≡ k = one_number (sym is ∙ update q ∙ cond-true _ _ _ eq) in
+      let here : v ≡ k = one_number (sym is ∙ new q ((same t.now q.now).0 eq)) in
       let last : v ≡ length texts = here ∙ end in
       let long = length-append texts (t ∷ []) in
       (omega arith, λ d. ap (λ i. (get_or (texts ++ t ∷ []) i d).now) last ∙ ap (λ (z : Bor (List ℕ)). z.now) (get_or-append_seam texts t [] d) ∙ (same t.now q.now).0 eq)
-  | inr un ↦ kept_push texts t v q.now (h q v (sym (update q ∙ cond-false _ _ _ un) ∙ is))
+  | inr un ↦ kept_push texts t v q.now (h q v (sym (others q (unlike t q un)) ∙ is))
 ]
 
-pub known_none : (texts : List (Bor (List ℕ))) (m : BTreeMap (Bor (List ℕ)) ℕ) → m.entries ≡ [] → AreKnown texts m
-known_none texts m empty q n is =
-    let none : mapped.get R m q ≡ None = ap (λ es. lookup (is_at (R q)) es) empty in
-    absurd (some_none (sym is ∙ none))
+pub known_none : (texts : List (Bor (List ℕ))) (m : TextNumbers) → ((q : Bor (List ℕ)) → number_of m q ≡ None) → AreKnown texts m
+known_none texts m empty q n is = absurd (some_none (sym is ∙ empty q))
 
 pub numbers_none : (all texts : List (Bor (List ℕ))) (numbers : List ℕ) → numbers ≡ [] → AreNumbersOf all texts 0 numbers
 numbers_none all texts numbers empty = record { count = ap length empty; each = λ i o lt. absurd (omega arith) }

@@ -1,15 +1,15 @@
 -- One bucket more that is under its text, and what a directory finds.
-use Rattle.std.proofs.Common.{◌≡◌, ◌∙◌, ap, sym, subst, ℕ, ◌+◌, ◌<◌, cond, List, [], length, arith, get_or, Some, None, Bor, inl, inr}
-use Rattle.std.specs.BTreeMap as mapped
-use Rattle.std.specs.BTreeMap.{BTreeMap}
-use Rattle.std.proofs.lemmas.Bool.{cases_lt, cases_Bool, cond-true, cond-false}
+use Rattle.std.proofs.Common.{◌≡◌, ◌∙◌, ap, sym, subst, ℕ, ◌+◌, ◌<◌, List, [], length, arith, get_or, Some, None, Bor, inl, inr}
+use Rattle.std.proofs.lemmas.Bool.{cases_lt, cases_Bool}
 use Rattle.std.proofs.lemmas.Option.{slice_get_past}
 use Rattle.cert_graph.proofs.PlacesOfNodes.{element_at}
 use Rattle.cert_graph.specs.declared.buckets.Bucket.{Bucket}
 use Rattle.cert_graph.specs.declared.places.Place.{Place}
 use Rattle.cert_graph.specs.declared.places.Part.TheVariants.{Name}
 use Rattle.cert_graph.specs.Places.{shown_at, Shows}
-use Rattle.cert_graph.proofs.Gathering.{E, R, same}
+use Rattle.cert_graph.specs.declared.texts.TextNumbers.{TextNumbers}
+use Rattle.cert_graph.specs.Texts.{number_of}
+use Rattle.cert_graph.proofs.Gathering.{E, same, unlike}
 use Rattle.certpath_why.specs.Numbered.{AreNumbered}
 use Rattle.certpath_why.specs.Reached.{ArePositions}
 use Rattle.certpath_why.specs.Directories.{IsDirectory}
@@ -23,32 +23,32 @@ not_none e = cc
 none_some : {X : Type 0} {x : X} → None ≡ Some x → ⊥
 none_some e = cc
 
-pub numbered_none : (bs : List Bucket) (m : BTreeMap (Bor (List ℕ)) ℕ) → ((q : Bor (List ℕ)) → mapped.get R m q ≡ None) → AreNumbered bs 0 m
+pub numbered_none : (bs : List Bucket) (m : TextNumbers) → ((q : Bor (List ℕ)) → number_of m q ≡ None) → AreNumbered bs 0 m
 numbered_none bs m empty = record {
   known = λ q n is. absurd (not_none (sym is ∙ empty q));
   met = λ i q b lt e none. absurd (omega (arith, lt));
 }
 
-pub numbered_more : (bs : List Bucket) (k : ℕ) (t : Bor (List ℕ)) (m n : BTreeMap (Bor (List ℕ)) ℕ) → AreNumbered bs k m → ((b : Bucket) → (get_or bs k b).text ≡ t)
-    → ((q : Bor (List ℕ)) → mapped.get R n q ≡ cond (E t.now q.now) (Some k) (mapped.get R m q)) → AreNumbered bs (k + 1) n
-numbered_more bs k t m n h own update = record {
+pub numbered_more : (bs : List Bucket) (k : ℕ) (t : Bor (List ℕ)) (m n : TextNumbers) → AreNumbered bs k m → ((b : Bucket) → (get_or bs k b).text ≡ t)
+    → ((q : Bor (List ℕ)) → t.now ≡ q.now → number_of n q ≡ Some k) → ((q : Bor (List ℕ)) → (t.now ≡ q.now → ⊥) → number_of n q ≡ number_of m q) → AreNumbered bs (k + 1) n
+numbered_more bs k t m n h own new others = record {
   known = λ q v is. elim (cases_Bool (E t.now q.now)) [
     | inl eq ↦
-        let here : v ≡ k = one_number (sym is ∙ update q ∙ cond-true _ _ _ eq) in
+        let here : v ≡ k = one_number (sym is ∙ new q ((same t.now q.now).0 eq)) in
         (omega arith, λ b. ap (λ i. (get_or bs i b).text.now) here ∙ ap (λ (z : Bor (List ℕ)). z.now) (own b) ∙ (same t.now q.now).0 eq)
     | inr un ↦
-        let old = h.known q v (sym (update q ∙ cond-false _ _ _ un) ∙ is) in
+        let old = h.known q v (sym (others q (unlike t q un)) ∙ is) in
         let lt = old.0 in
         (omega arith, old.1)
   ];
   met = λ i q b lt e none. elim (cases_Bool (E t.now q.now)) [
-    | inl eq ↦ not_none (sym (update q ∙ cond-true _ _ _ eq) ∙ none)
+    | inl eq ↦ not_none (sym (new q ((same t.now q.now).0 eq)) ∙ none)
     | inr un ↦ elim (cases_lt i k) [
-      | inl less ↦ h.met i q b less e (sym (update q ∙ cond-false _ _ _ un) ∙ none)
+      | inl less ↦ h.met i q b less e (sym (others q (unlike t q un)) ∙ none)
       | inr past ↦
           let here : i ≡ k = omega arith in
           let mine : t.now ≡ q.now = ap (λ (z : Bor (List ℕ)). z.now) (sym (own b)) ∙ ap (λ j. (get_or bs j b).text.now) (sym here) ∙ e in
-          not_none (sym (update q ∙ cond-true _ _ _ ((same t.now q.now).1 mine)) ∙ none)
+          not_none (sym (new q mine) ∙ none)
     ]
   ];
 }
@@ -60,7 +60,7 @@ within all v q s = elim (cases_lt v (length all)) [
   | inr past ↦ absurd (none_some (sym (ap (shown_at Name) (slice_get_past all v past)) ∙ s))
 ]
 
-pub found_positions : (all : List Place) (bs : List Bucket) (m : BTreeMap (Bor (List ℕ)) ℕ) (name : Bor (List ℕ)) (n : ℕ) (ps : List ℕ) → AreNumbered bs (length bs) m → IsDirectory all bs → mapped.get R m name ≡ Some n
+pub found_positions : (all : List Place) (bs : List Bucket) (m : TextNumbers) (name : Bor (List ℕ)) (n : ℕ) (ps : List ℕ) → AreNumbered bs (length bs) m → IsDirectory all bs → number_of m name ≡ Some n
     → ((b : Bucket) → ps ≡ (get_or bs n b).places.items) → ArePositions (λ v. Shows Name all v name.now) ps
 found_positions all bs m name n ps numbered h is at =
     let known = numbered.known name n is in
@@ -74,7 +74,7 @@ found_positions all bs m name n ps numbered h is at =
       );
     })
 
-pub no_positions : (all : List Place) (bs : List Bucket) (m : BTreeMap (Bor (List ℕ)) ℕ) (name : Bor (List ℕ)) → AreNumbered bs (length bs) m → IsDirectory all bs → mapped.get R m name ≡ None → ArePositions (λ v. Shows Name all v name.now) []
+pub no_positions : (all : List Place) (bs : List Bucket) (m : TextNumbers) (name : Bor (List ℕ)) → AreNumbered bs (length bs) m → IsDirectory all bs → number_of m name ≡ None → ArePositions (λ v. Shows Name all v name.now) []
 no_positions all bs m name numbered h none = record {
   ascends = λ k lt. absurd (omega (arith, lt));
   exact = λ v. (

@@ -1,8 +1,8 @@
 -- Equal octets have one number. Contracts of private functions cite it.
 use Rattle.std.specs.Borrow.{Bor}
-use Rattle.std.specs.Prelude.{◌≡◌, ◌<◌, ℕ, List, length, slice_index_or}
-use Rattle.std.specs.BTreeMap.{BTreeMap}
-use Rattle.certpath_why.specs.Numbered.{number_of}
+use Rattle.std.specs.Prelude.{◌≡◌, ◌<◌, ℕ, List, Some, length, slice_index_or}
+use Rattle.cert_graph.specs.declared.texts.TextNumbers.{TextNumbers}
+use Rattle.cert_graph.specs.Texts.{number_of}
 use Rattle.certpath_why.specs.declared.classes.Classes.{Classes}
 
 -- a number is that of these octets
@@ -10,8 +10,8 @@ abbrev pub IsNumberOf : List (Bor (List ℕ)) → ℕ → List ℕ → Type 0
 IsNumberOf texts n q = (n < length texts) × ((t : Bor (List ℕ)) → (slice_index_or texts n t).now ≡ q)
 
 -- what the map has for some octets is their number
-abbrev pub AreKnown : List (Bor (List ℕ)) → BTreeMap (Bor (List ℕ)) ℕ → Type 0
-AreKnown texts known = (q : Bor (List ℕ)) (n : ℕ) → number_of known q n → IsNumberOf texts n q.now
+abbrev pub AreKnown : List (Bor (List ℕ)) → TextNumbers → Type 0
+AreKnown texts known = (q : Bor (List ℕ)) (n : ℕ) → number_of known q ≡ Some n → IsNumberOf texts n q.now
 
 -- octets that had a number have it still
 abbrev pub AreKept : List (Bor (List ℕ)) → List (Bor (List ℕ)) → Type 0

@@ -82,11 +82,11 @@ fn tell_no_issuer(
 }
 
 /// The links of a certificate by what it has in common with others.
-fn groups_from<V: Vouch>(
+fn groups_from<'a, V: Vouch>(
     alloc: Global,
-    question: &Question<'_, '_, V>,
-    certificate: &CertificateItem<'_>,
-    issued: &Issued<'_>,
+    question: &Question<'_, 'a, V>,
+    certificate: &CertificateItem<'a>,
+    issued: &Issued<'a>,
 ) -> Result<Groups, AllocError>
     requires { IsIssued (rules_in V.Vouch question.now) (items_in question.now) question.now.found.now.items.now certificate.now issued.now }
     ensures { IfOk result (AreGroups (IsLinkedTo (rules_in V.Vouch question.now) (items_in question.now) (certificate_item certificate.now))
@@ -102,10 +102,10 @@ fn groups_from<V: Vouch>(
 fn groups_of<'a, V: Vouch>(
     alloc: Global,
     kept: &mut Kept<'a>,
-    question: &Question<'_, '_, V>,
+    question: &Question<'_, 'a, V>,
     side: &Side<'_, 'a>,
     place: usize,
-    certificate: &CertificateItem<'_>,
+    certificate: &CertificateItem<'a>,
     linking: &Linking<'_, '_>,
 ) -> Result<Groups, AllocError>
     requires kept { AreItemsWritten V.Vouch question.now kept.old }
@@ -140,10 +140,10 @@ fn groups_of<'a, V: Vouch>(
 fn tails_among<'a, V: Vouch>(
     alloc: Global,
     kept: &mut Kept<'a>,
-    question: &Question<'_, '_, V>,
+    question: &Question<'_, 'a, V>,
     side: &Side<'_, 'a>,
     place: usize,
-    certificate: &CertificateItem<'_>,
+    certificate: &CertificateItem<'a>,
     linking: &Linking<'_, '_>,
 ) -> Result<Vec<String>, OutOfMemory>
     requires kept { AreItemsWritten V.Vouch question.now kept.old }
@@ -195,7 +195,7 @@ fn tails_to_items<'a, V: Vouch>(
     kept: &mut Kept<'a>,
     question: &Question<'_, 'a, V>,
     place: usize,
-    certificate: &CertificateItem<'_>,
+    certificate: &CertificateItem<'a>,
     linking: &Linking<'_, '_>,
     issuers: &[usize],
     first: usize,
@@ -246,7 +246,7 @@ fn tell_links<'a, V: Vouch>(
     written: &mut Kept<'a>,
     question: &Question<'_, 'a, V>,
     place: usize,
-    certificate: &CertificateItem<'_>,
+    certificate: &CertificateItem<'a>,
     linking: &Linking<'_, '_>,
     issuers: &[usize],
 ) -> Result<(), OutOfMemory>
@@ -292,10 +292,10 @@ fn tell_links<'a, V: Vouch>(
 fn root_groups_of<'a, V: Vouch>(
     alloc: Global,
     used: &mut BTreeMap<usize, Used>,
-    question: &Question<'_, '_, V>,
+    question: &Question<'_, 'a, V>,
     side: &Side<'_, 'a>,
     place: usize,
-    certificate: &CertificateItem<'_>,
+    certificate: &CertificateItem<'a>,
     linking: &Linking<'_, '_>,
 ) -> Result<Groups, AllocError>
     requires used { AreUsedKept (rules_in V.Vouch question.now) (items_in question.now) (anchors_in question.now) used.old }
@@ -323,10 +323,10 @@ fn root_groups_of<'a, V: Vouch>(
 fn root_tails_among<'a, V: Vouch>(
     alloc: Global,
     kept: &mut Kept<'_>,
-    question: &Question<'_, '_, V>,
+    question: &Question<'_, 'a, V>,
     side: &Side<'_, 'a>,
     place: usize,
-    certificate: &CertificateItem<'_>,
+    certificate: &CertificateItem<'a>,
     linking: &Linking<'_, '_>,
 ) -> Result<Vec<String>, OutOfMemory>
     requires kept { AreAnchorsWritten V.Vouch question.now kept.old }
@@ -420,7 +420,7 @@ fn tell_anchors<'a, V: Vouch>(
     written: &mut Kept<'a>,
     question: &Question<'_, 'a, V>,
     place: usize,
-    certificate: &CertificateItem<'_>,
+    certificate: &CertificateItem<'a>,
     linking: &Linking<'_, '_>,
     roots: &[usize],
 ) -> Result<(), OutOfMemory>

@@ -5,8 +5,8 @@ ghost use Rattle.std.specs.List.Sorted.{IsStrictlyIncreasing};
 ghost use Rattle.certpath_why.specs.Classes.{AreClasses, AreKept, AreKnown, IsNumberOf, number_at};
 
 use crate::positions::put_in_order;
+use cert_graph::TextNumbers;
 use std::alloc::{AllocError, Global};
-use std::collections::BTreeMap;
 
 /// The numbers of octets, from 0.
 #[derive(Drop)]
@@ -19,7 +19,7 @@ pub(crate) struct Classes<'a> {
 
 /// The number of octets, which is a new one if they are new.
 fn number_of<'a>(
-    known: &mut BTreeMap<&'a [u8], usize>,
+    known: &mut TextNumbers<'a>,
     texts: &mut Vec<&'a [u8]>,
     text: &'a [u8],
 ) -> Result<usize, AllocError>
@@ -29,7 +29,7 @@ fn number_of<'a>(
     ensures number { IfOk result (λ n. IsNumberOf texts.new.items n text.now) }
 {
     if let Some(number) = known.get(text) {
-        return Ok(*number);
+        return Ok(number);
     }
     let number = texts.len();
     known.insert(text, number)?;
@@ -41,7 +41,7 @@ fn number_of<'a>(
 pub(crate) fn classes_of<'a>(alloc: Global, all: &[&'a [u8]]) -> Result<Classes<'a>, AllocError>
     ensures { IfOk result (AreClasses all.now) }
 {
-    let mut known = BTreeMap::new(alloc);
+    let mut known = TextNumbers::new(alloc);
     let mut texts = Vec::new(alloc);
     let mut numbers = Vec::with_capacity(alloc, all.len())?;
     for text in all {

@@ -29,10 +29,10 @@ use std::collections::BTreeMap;
 /// Those of the certificates of the issuer's name whose key identifiers differ: those that have one,
 /// but for those that have the one that the certificate names. It costs a look-up of that one, and
 /// a binary search for each that has it; nothing if the certificate names no key.
-fn differing_among(
+fn differing_among<'a>(
     alloc: Global,
-    certificate: &CertificateItem<'_>,
-    issuers: &Issuers<'_>,
+    certificate: &CertificateItem<'a>,
+    issuers: &Issuers<'a>,
 ) -> Result<Cut, AllocError>
     requires { AreSpaced 0 issuers.now.keyed.items }
     ensures { (items : List ReadItem) → AreIssuers items certificate.now.issuer.now issuers.now
@@ -48,14 +48,14 @@ fn differing_among(
 
 /// Adds the end of the line of those of the issuer's name whose key identifiers differ. They are
 /// worked out once for each key identifier that certificates name for an issuer.
-pub(crate) fn add_differing(
+pub(crate) fn add_differing<'a>(
     tails: &mut Vec<String>,
     alloc: Global,
     kept: &mut BTreeMap<Vec<usize>, Cut>,
     _items: &[ReadItem<'_>],
-    side: &Side<'_, '_>,
+    side: &Side<'_, 'a>,
     _place: usize,
-    certificate: &CertificateItem<'_>,
+    certificate: &CertificateItem<'a>,
 ) -> Result<(), OutOfMemory>
     requires kept { AreDifferingKept _items.now (others_of side.now) kept.old }
     requires named { AreIssuers side.now.others.now side.now.name.now side.now.named.now }

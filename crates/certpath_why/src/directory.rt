@@ -11,15 +11,14 @@ ghost use Rattle.certpath_why.specs.Reached.{ArePositions};
 ghost use Rattle.certpath_why.specs.Numbered.{AreNumbered};
 ghost use Rattle.certpath_why.specs.Directories.{IsDirectory};
 
-use cert_graph::{Bucket, Part, Place, alike};
+use cert_graph::{Bucket, Part, Place, TextNumbers, alike};
 use std::alloc::{AllocError, Global};
-use std::collections::BTreeMap;
 
 /// The positions of each name, found by a sorted map.
 #[derive(Drop)]
 pub(crate) struct Directory<'a> {
     pub(crate) buckets: Vec<Bucket<'a>>,
-    numbers: BTreeMap<&'a [u8], usize>,
+    numbers: TextNumbers<'a>,
     ghost numbered: { AreNumbered buckets.items (length buckets.items) numbers },
 }
 
@@ -36,13 +35,10 @@ pub(crate) fn numbers_below(alloc: Global, count: usize) -> Result<Vec<usize>, A
 }
 
 /// The number of each bucket, by its text.
-fn numbers_of<'a>(
-    alloc: Global,
-    buckets: &[Bucket<'a>],
-) -> Result<BTreeMap<&'a [u8], usize>, AllocError>
+fn numbers_of<'a>(alloc: Global, buckets: &[Bucket<'a>]) -> Result<TextNumbers<'a>, AllocError>
     ensures { IfOk result (AreNumbered buckets.now (length buckets.now)) }
 {
-    let mut numbers = BTreeMap::new(alloc);
+    let mut numbers = TextNumbers::new(alloc);
     for (number, bucket) in buckets.iter().enumerate() {
         numbers.insert(bucket.text, number)?;
     }
@@ -70,11 +66,11 @@ impl<'a> Directory<'a> {
     }
 
     /// The positions that show a name, in ascending order.
-    pub(crate) fn positions(&self, name: &[u8]) -> &[usize]
+    pub(crate) fn positions(&self, name: &'a [u8]) -> &[usize]
         ensures { (all : List Place) → IsDirectory all self.now.buckets.items → ArePositions (λ v. Shows Name all v name.now) result.now }
     {
         match self.numbers.get(name) {
-            Some(number) => places_in(&self.buckets, *number),
+            Some(number) => places_in(&self.buckets, number),
             None => &[],
         }
     }

@@ -137,7 +137,7 @@ impl<'b, 'a> Found<'b, 'a> {
     }
 
     /// The positions of the certificates of this subject.
-    pub(crate) fn issuers(&self, name: &[u8]) -> &[usize]
+    pub(crate) fn issuers(&self, name: &'a [u8]) -> &[usize]
         requires { IsFound self.now }
         ensures { ArePositions (HasSubject (map item_of self.now.items.now) name.now) result.now }
     {
@@ -145,7 +145,7 @@ impl<'b, 'a> Found<'b, 'a> {
     }
 
     /// The positions of the lists of this issuer.
-    pub(crate) fn lists(&self, name: &[u8]) -> &[usize]
+    pub(crate) fn lists(&self, name: &'a [u8]) -> &[usize]
         requires { IsFound self.now }
         ensures { ArePositions (λ p. IsAt self.now.items.now p (IsListWith (IsOf name.now))) result.now }
     {
@@ -177,7 +177,7 @@ impl<'b, 'a> Found<'b, 'a> {
     }
 
     /// The positions of the anchors of this subject.
-    pub(crate) fn roots(&self, name: &[u8]) -> &[usize]
+    pub(crate) fn roots(&self, name: &'a [u8]) -> &[usize]
         requires { IsFound self.now }
         ensures { ArePositions (HasSubject (map item_of self.now.anchors.now) name.now) result.now }
     {

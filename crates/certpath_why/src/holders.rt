@@ -103,7 +103,7 @@ fn add_name<'a, V: Vouch>(
 /// have the name as their issuer. The voucher is asked once for each name.
 pub(crate) fn holders_of<'a, V: Vouch>(
     alloc: Global,
-    issuers: &Directory<'_>,
+    issuers: &Directory<'a>,
     classes: &Classes<'_>,
     members: &[Place<'a>],
     vouch: &V,

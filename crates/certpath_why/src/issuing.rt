@@ -45,7 +45,7 @@ impl<'a> Issued<'a> {
     pub(crate) fn new<V: Vouch>(
         alloc: Global,
         used: &mut BTreeMap<usize, Used>,
-        question: &Question<'_, '_, V>,
+        question: &Question<'_, 'a, V>,
         side: &Side<'_, 'a>,
         place: usize,
         certificate: &CertificateItem<'_>,
@@ -85,10 +85,10 @@ fn is_none(places: &[usize]) -> bool
 /// key identifier is the one that it names, or they have none; all, if it names none (RFC 5280,
 /// 4.2.1.1). It costs a step for each of these, but for those without a key identifier none if no
 /// other has the one that it names.
-pub(crate) fn linked_among(
+pub(crate) fn linked_among<'a>(
     alloc: Global,
-    certificate: &CertificateItem<'_>,
-    under: &Issuers<'_>,
+    certificate: &CertificateItem<'a>,
+    under: &Issuers<'a>,
 ) -> Result<Cut, AllocError>
     ensures { (items : List ReadItem) → AreGathered items (Contains under.now.places.items) under.now → ((w : ℕ) → Contains under.now.places.items w → IsCertificateAt (map item_of items) w)
         → IfOk result (IsCutOf (λ w. Contains under.now.places.items w × AgreesAt (map item_of items) certificate.now w)) }

@@ -186,7 +186,7 @@ impl<'a> Issuers<'a> {
     }
 
     /// The positions of those that have this key identifier.
-    pub(crate) fn with_id(&self, alloc: Global, id: &[u8]) -> Result<Vec<usize>, AllocError>
+    pub(crate) fn with_id(&self, alloc: Global, id: &'a [u8]) -> Result<Vec<usize>, AllocError>
         ensures ascends { IfOk result (λ found. IsStrictlyIncreasing found.items) }
         ensures exact { (items : List ReadItem) → IsDirectory (map (id_place items) self.now.places.items) self.now.by_id.buckets.items
             → IfOk result (λ found. ArePositions (λ w. Contains self.now.places.items w × IsOwnId items id.now w) found.items) }

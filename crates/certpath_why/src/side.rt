@@ -10,7 +10,7 @@ pub(crate) struct Side<'q, 'a> {
     pub(crate) others: &'q [ReadItem<'a>],
     /// Whose keys vouch for which items, of all names.
     pub(crate) holders: &'q Holders<'a>,
-    pub(crate) name: &'q [u8],
+    pub(crate) name: &'a [u8],
     pub(crate) named: &'q Issuers<'a>,
     /// The position of one of the name, under which others keep what they work out for the name.
     pub(crate) first: usize,

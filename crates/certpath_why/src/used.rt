@@ -84,10 +84,10 @@ fn in_force_among(
 
 impl Used {
     /// The certificates of a name.
-    pub(crate) fn new<V: Vouch>(
+    pub(crate) fn new<'a, V: Vouch>(
         alloc: Global,
-        question: &Question<'_, '_, V>,
-        side: &Side<'_, '_>,
+        question: &Question<'_, 'a, V>,
+        side: &Side<'_, 'a>,
     ) -> Result<Used, AllocError>
         requires known { IsFound question.now.found.now }
         requires side { IsSide V.Vouch question.now side.now }
@@ -106,11 +106,11 @@ impl Used {
 
 /// Of certificates of a name those under whose keys a list is used; all of them, if lists aren't
 /// demanded.
-pub(crate) fn listed_among<V: Vouch>(
+pub(crate) fn listed_among<'a, V: Vouch>(
     alloc: Global,
     kept: &mut BTreeMap<usize, Used>,
-    question: &Question<'_, '_, V>,
-    side: &Side<'_, '_>,
+    question: &Question<'_, 'a, V>,
+    side: &Side<'_, 'a>,
     places: &[usize],
 ) -> Result<Vec<usize>, AllocError>
     requires kept { AreUsedKept (rules_in V.Vouch question.now) (items_in question.now) (others_of side.now) kept.old }
@@ -137,12 +137,12 @@ pub(crate) fn listed_among<V: Vouch>(
 
 /// Adds the end of the line of the certificates of a name under whose keys no list is used, if
 /// lists are demanded.
-pub(crate) fn add_lacking<V: Vouch>(
+pub(crate) fn add_lacking<'a, V: Vouch>(
     tails: &mut Vec<String>,
     alloc: Global,
     kept: &mut BTreeMap<usize, Used>,
-    question: &Question<'_, '_, V>,
-    side: &Side<'_, '_>,
+    question: &Question<'_, 'a, V>,
+    side: &Side<'_, 'a>,
 ) -> Result<(), OutOfMemory>
     requires kept { AreUsedKept (rules_in V.Vouch question.now) (items_in question.now) (others_of side.now) kept.old }
     requires known { IsFound question.now.found.now }

@@ -18,7 +18,7 @@ use Rattle.cert_judge.specs.Classed.{AreClassed}
 use Rattle.cert_judge.specs.Revoking.{Item}
 use Rattle.cert_judge.proofs.Examples.{none as of_none, one}
 use Rattle.cert_judge.proofs.Linking.{fit_is_usable}
-use Rattle.certpath_find.specs.Answered.{HoldsOfItems, IsFound}
+use Rattle.certpath_run.specs.Answered.{HoldsOfItems, IsFound}
 use Rattle.certpath_why.specs.Bounds.{IsHeldBack, reach_by}
 use Rattle.laws_paths.specs.Found.{all_found, anchor_octets, limited_octets, path_found}
 use Rattle.laws_paths.specs.Worked.{no_row, under_d}

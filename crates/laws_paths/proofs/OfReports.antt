@@ -13,7 +13,7 @@ use Rattle.cert_judge.specs.Revoking.{Item, JudgingContext}
 use Rattle.cert_model.specs.Class.{IsClassOf, other}
 use Rattle.cert_serving.specs.Refusing.{IsIn}
 use Rattle.cert_serving.specs.declared.permits.Permits.{Permits}
-use Rattle.certpath_find.specs.Answered.{IsFound}
+use Rattle.certpath_run.specs.Answered.{IsFound}
 use Rattle.certpath_inputs.specs.Check.{check_line}
 use Rattle.certpath_inputs.specs.Demands.{ArePermitsOf, demand_lines, demanded, of_purpose, target_octets}
 use Rattle.certpath_inputs.specs.declared.demand.AskedPurpose.{AskedPurpose}

@@ -31,7 +31,7 @@ use Rattle.cert_reasons.proofs.Certain.{all_of_usable}
 use Rattle.cert_reasons.proofs.Worked.{end_entity}
 use Rattle.cert_search.specs.Exact.{HoldsAll, HoldsNoElsewhere}
 use Rattle.cert_vouchers.specs.declared.vouchers.Vouchers.{Vouchers}
-use Rattle.certpath_find.specs.Answered.{IsFound}
+use Rattle.certpath_run.specs.Answered.{IsFound}
 use Rattle.certpath_inputs.specs.Demands.{of_purpose}
 use Rattle.certpath_inputs.specs.Inputs.{VouchesBy}
 use Rattle.certpath_run.specs.EmptyReports.{no_items}

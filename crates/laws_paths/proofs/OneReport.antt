@@ -15,8 +15,8 @@ use Rattle.cert_model.specs.Class.{Class, IsClassOf}
 use Rattle.cert_model.specs.Class as classes
 use Rattle.cert_serving.specs.declared.permits.Permits.{Permits}
 use Rattle.cert_vouchers.specs.declared.vouchers.Vouchers.{Vouchers}
-use Rattle.certpath_find.specs.Answered.{IsFound}
-use Rattle.certpath_find.proofs.Answering.{one_classing}
+use Rattle.certpath_run.specs.Answered.{IsFound}
+use Rattle.certpath_run.proofs.Searched.{one_classing}
 use Rattle.certpath_inputs.specs.Check.{check_line}
 use Rattle.certpath_inputs.specs.Demands.{ArePermitsOf, VouchesWhere, demand_lines, demanded, of_purpose, target_octets}
 use Rattle.certpath_inputs.specs.Inputs.{VouchesBy}

@@ -25,7 +25,7 @@ use Rattle.cert_reasons.specs.declared.links.Unlinked.TheVariants as links
 use Rattle.cert_reasons.specs.declared.lists.Unused.{Unused}
 use Rattle.cert_reasons.specs.declared.lists.Unused.TheVariants as lists
 use Rattle.cert_reasons.proofs.Ordered.{all_as, one_list}
-use Rattle.certpath_find.specs.Answered.{IsFound}
+use Rattle.certpath_run.specs.Answered.{IsFound}
 use Rattle.certpath_inputs.specs.declared.demand.Demand.{Demand}
 use Rattle.certpath_why.specs.Bounds.{IsBound, reach_by}
 use Rattle.certpath_why.specs.Demanded.{AreDemandLines}

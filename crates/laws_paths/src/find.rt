@@ -8,7 +8,7 @@ ghost use Rattle.cert_graph.specs.declared.answer.Answer.TheVariants.{NoPath};
 ghost use Rattle.cert_judge.specs.Examples.{certificate_item, in_june, limited_above};
 ghost use Rattle.cert_judge.specs.ItemGraph.{graph_of_items};
 ghost use Rattle.cert_judge.specs.Items.{rules_at, rules_by};
-ghost use Rattle.certpath_find.specs.Answered.{HoldsOfItems, IsFound};
+ghost use Rattle.certpath_run.specs.Answered.{HoldsOfItems, IsFound};
 ghost use Rattle.certpath_why.specs.Bounds.{IsHeldBack, reach_by};
 ghost use Rattle.laws_paths.specs.Found.{all_found, anchor_octets, by_june, limited_octets, none_found, path_found};
 ghost use Rattle.laws_paths.specs.Worked.{no_row, under_d};

@@ -16,7 +16,7 @@ returns-in_err-from_issuer c = λ e.
     let l = list_view c.args.fields.now in
     let t = c.in_ok-tbs.ensures (tbs_list_content l) (signed_rest l.algorithm l.signature_value) (e ∙ list_in_parts l) in
     let n = list_front_counted l c.issuer_place.result c.issuer_place.ensures in
-    let y = c.rest_behind.ensures (list_front l) (name_octets l.issuer ++ list_back l) (list_front_all l) n t in
+    let y = c.rest_after.ensures (list_front l) (name_octets l.issuer ++ list_back l) (list_front_all l) n t in
     let z = rw c.in_err-from_issuer.was at y in absurd z
 
 pub returns-in_err-issuer : goal.returns-in_err-issuer

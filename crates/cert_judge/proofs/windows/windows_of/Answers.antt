@@ -15,7 +15,7 @@ pub returns-in_err-from_issuer : goal.returns-in_err-from_issuer
 returns-in_err-from_issuer c = λ e.
     let d = certificate_view c.args.fields.now in
     let t = c.in_ok-tbs.ensures (tbs_content d) (signed_rest d.algorithm d.signature_value) (e ∙ certificate_in_parts d) in
-    let y = c.rest_behind.ensures (certificate_front d) (from_issuer d) (certificate_front_all d) (certificate_front_counted d c.first_of-first.result c.first_of-first.ensures) (t ∙ tbs_content_parted d) in
+    let y = c.rest_after.ensures (certificate_front d) (from_issuer d) (certificate_front_all d) (certificate_front_counted d c.first_of-first.result c.first_of-first.ensures) (t ∙ tbs_content_parted d) in
     let z = rw c.in_err-from_issuer.was at y in absurd z
 
 pub returns-in_err-issuer : goal.returns-in_err-issuer

@@ -5,7 +5,7 @@ use Rattle.certpath_why.proofs.Classing.{known_none, numbers_none, numbers_more}
 use Rattle.certpath_why.proofs.classes.classes_of.Goals as goal
 
 pub loop-text-init : goal.loop-text-init
-loop-text-init c = (known_none _ c.new-known.result c.new-known.ensures.empty, numbers_none _ _ _ c.in_ok-numbers.ensures.items)
+loop-text-init c = (known_none _ c.new-known.result c.new-known.ensures, numbers_none _ _ _ c.in_ok-numbers.ensures.items)
 
 pub loop-text-preserved : goal.loop-text-preserved
 loop-text-preserved c = (

@@ -10,4 +10,4 @@ loop-number-preserved c =
     let k = c.loop-number.number in
     let b = c.index-buckets-number.result in
     numbered_more bs k b.text c.loop-number.numbers c.insert.new.self c.loop-number.invariant
-    (λ d. ap (λ (z : Bucket). z.text) (get_or_default bs k d b c.loop-number-test.true ∙ sym c.index-buckets-number.is)) (λ q. c.in_ok-insert.ensures.updates.0 q)
+    (λ d. ap (λ (z : Bucket). z.text) (get_or_default bs k d b c.loop-number-test.true ∙ sym c.index-buckets-number.is)) c.in_ok-insert.ensures.own c.in_ok-insert.ensures.others
