@@ -1,18 +1,14 @@
--- One of the parts that octets begin with.
+-- What follows parts that octets begin with.
 use Rattle.std.specs.List.{concat, AllByRecursion}
-use Rattle.std.proofs.Common.{◌≡◌, ◌≢◌, ◌∙◌, refl, zero, suc, sub-one, get_or, [], ◌∷◌, ℕ, ◌-◌, ◌<◌, List, ◌++◌, length, arith, append_assoc}
+use Rattle.std.proofs.Common.{◌≡◌, ◌≢◌, ◌∙◌, sym, [], ◌∷◌, ℕ, ◌-◌, List, ◌++◌, length, arith, append_assoc}
 use Rattle.cert_model.specs.Parts.{IsPart}
 
+pub after_none : (parts : List (List ℕ)) (rest s : List ℕ) (count : ℕ) → length parts ≡ count → count ≡ 0 → s ≡ concat parts ++ rest → s ≡ rest
+after_none [] rest s count l z e = e
+after_none (p ∷ ps) rest s count l z e = absurd (omega (arith, l, z))
+
 -- the first of some parts, and the others
-pub first_of_parts : (parts : List (List ℕ)) (rest s : List ℕ) (place : ℕ) → AllByRecursion IsPart parts → place < length parts → s ≡ concat parts ++ rest
-    → (p : List ℕ) × (ps : List (List ℕ)) × IsPart p × AllByRecursion IsPart ps × (s ≡ p ++ (concat ps ++ rest)) × (parts ≡ p ∷ ps)
-first_of_parts [] rest s place all lt e = absurd (omega arith)
-first_of_parts (p ∷ ps) rest s place all lt e = (p, ps, all.0, all.1, e ∙ append_assoc p (concat ps) rest, refl)
-
-pub part_zero : (p : List ℕ) (ps : List (List ℕ)) (place : ℕ) → place ≡ 0 → get_or (p ∷ ps) place [] ≡ p
-part_zero p ps zero e = refl
-part_zero p ps (suc n) e = absurd cc
-
-pub part_next : (p : List ℕ) (ps : List (List ℕ)) (place : ℕ) → place ≢ 0 → get_or (p ∷ ps) place [] ≡ get_or ps (place - 1) []
-part_next p ps zero n = absurd (n refl)
-part_next p ps (suc n) e = rw (sub-one) refl
+pub first_of_parts : (parts : List (List ℕ)) (rest s : List ℕ) (count : ℕ) → AllByRecursion IsPart parts → length parts ≡ count → count ≢ 0 → s ≡ concat parts ++ rest
+    → (p : List ℕ) × (ps : List (List ℕ)) × IsPart p × AllByRecursion IsPart ps × (length ps ≡ count - 1) × (s ≡ p ++ (concat ps ++ rest))
+first_of_parts [] rest s count all l n e = absurd (n (sym l))
+first_of_parts (p ∷ ps) rest s count all l n e = (p, ps, all.0, all.1, omega (arith, l), e ∙ append_assoc p (concat ps) rest)

@@ -21,19 +21,16 @@ optional_parts c =
 abbrev pub tbs_content : Certificate → List ℕ
 tbs_content c = concat (parts_of c) ++ optional_parts c
 
--- the parts of a TBSCertList up to the issuer
-abbrev pub list_front : RevocationList → List (List ℕ)
-list_front l = algorithm_octets l.signature ∷ name_octets l.issuer ∷ []
-
--- a version comes before them, if there is one
+-- a version comes before other parts, if there is one
 abbrev pub behind_version : Option ℕ → List (List ℕ) → List (List ℕ)
 behind_version None parts = parts
 behind_version (Some version) parts = number_octets (version ∷ []) ∷ parts
 
-abbrev pub list_parts : RevocationList → List (List ℕ)
-list_parts l = behind_version l.version (list_front l)
+-- the parts of a TBSCertList before the issuer
+abbrev pub list_front : RevocationList → List (List ℕ)
+list_front l = behind_version l.version (algorithm_octets l.signature ∷ [])
 
--- the issuer's place among them
+-- the issuer's place
 abbrev pub issuer_place : Option ℕ → ℕ
 issuer_place None = 1
 issuer_place (Some version) = 2
@@ -44,4 +41,4 @@ list_back l =
     concat (time_octets l.this_update ∷ optional_octets time_octets l.next_update ∷ entries_octets l.entries ∷ tagged_extensions_octets 0 l.extensions ∷ [])
 
 abbrev pub tbs_list_content : RevocationList → List ℕ
-tbs_list_content l = concat (list_parts l) ++ list_back l
+tbs_list_content l = concat (list_front l) ++ (name_octets l.issuer ++ list_back l)

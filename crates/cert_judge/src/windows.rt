@@ -3,7 +3,7 @@
 //! Fields say what a name is, and not which octets of the item it lies in. Links go by these
 //! octets, so they are looked up here, element by element from the front (RFC 5280, 4.1 and 5.1).
 
-ghost use Rattle.std.specs.Prelude.{◌≡◌, ◌<◌, ◌++◌, ℕ, List, [], length, slice_index_or, nat_lt, if◌then◌else◌, IsSomeAnd};
+ghost use Rattle.std.specs.Prelude.{◌≡◌, ◌++◌, ℕ, List, length, nat_lt, if◌then◌else◌, IsSomeAnd};
 ghost use Rattle.std.specs.List.{concat, AllByRecursion};
 ghost use Rattle.cert_model.specs.Octets.{sequence_octets, certificate_octets, list_octets, name_octets, key_octets};
 ghost use Rattle.cert_model.specs.Parts.{IsPart};
@@ -14,23 +14,19 @@ use asn1_core::{Class, Tag};
 use cert_model::fields::{CertFields, ListFields};
 use cert_model::parts::{first_part, whole};
 
-/// The places of elements in TBSCertificate, counted from the serial number (RFC 5280, 4.1).
+/// The place of the issuer in TBSCertificate, counted from the serial number (RFC 5280, 4.1).
 const ISSUER: usize = 2;
 
-const SUBJECT: usize = 4;
-
-const KEY: usize = 5;
-
-/// One of the elements that octets begin with, by its place from 0.
-fn part_at(octets: &[u8], place: usize) -> Option<&[u8]>
-    ensures { (parts : List (List ℕ)) (rest : List ℕ) → AllByRecursion IsPart parts → place < length parts → octets.now ≡ concat parts ++ rest
-        → IsSomeAnd result (λ r. r.now ≡ slice_index_or parts place []) }
+/// What follows the first `count` of the elements that octets begin with.
+fn rest_after(octets: &[u8], count: usize) -> Option<&[u8]>
+    ensures { (parts : List (List ℕ)) (rest : List ℕ) → AllByRecursion IsPart parts → length parts ≡ count → octets.now ≡ concat parts ++ rest
+        → IsSomeAnd result (λ r. r.now ≡ rest) }
 {
-    let (first, rest) = first_part(octets)?;
-    if place == 0 {
-        Some(first)
+    if count == 0 {
+        Some(octets)
     } else {
-        part_at(rest, place - 1)
+        let (_, rest) = first_part(octets)?;
+        rest_after(rest, count - 1)
     }
 }
 
@@ -60,17 +56,19 @@ fn first_of(version: u8) -> usize
 }
 
 /// The windows of an item that the fields of a certificate write (RFC 5280, 4.1). `Some` whenever
-/// they do; of other octets nothing is said. It takes no memory, and a step for each element before
-/// the key.
+/// they do; of other octets nothing is said. It takes no memory, and one pass: a step for each
+/// element up to the key.
 pub fn windows_of<'a>(item: &'a [u8], fields: &CertFields<'_>) -> Option<Windows<'a>>
     ensures { item.now ≡ certificate_octets (certificate_view fields.now) → IsSomeAnd result (λ w. (w.issuer.now ≡ name_octets (certificate_view fields.now).issuer)
         × (w.subject.now ≡ name_octets (certificate_view fields.now).subject) × (w.key.now ≡ key_octets (certificate_view fields.now).key)) }
 {
     let tbs = tbs_of(item)?;
     let first = first_of(fields.version);
-    let issuer = part_at(tbs, first + ISSUER)?;
-    let subject = part_at(tbs, first + SUBJECT)?;
-    let key = part_at(tbs, first + KEY)?;
+    let from_issuer = rest_after(tbs, first + ISSUER)?;
+    let (issuer, from_validity) = first_part(from_issuer)?;
+    let (_, from_subject) = first_part(from_validity)?;
+    let (subject, from_key) = first_part(from_subject)?;
+    let (key, _) = first_part(from_key)?;
     Some(Windows {
         issuer,
         subject,
@@ -95,5 +93,7 @@ pub fn list_issuer_of<'a>(item: &'a [u8], fields: &ListFields<'_>) -> Option<&'a
     ensures { item.now ≡ list_octets (list_view fields.now) → IsSomeAnd result (λ w. w.now ≡ name_octets (list_view fields.now).issuer) }
 {
     let tbs = tbs_of(item)?;
-    part_at(tbs, issuer_place(fields.version))
+    let from_issuer = rest_after(tbs, issuer_place(fields.version))?;
+    let (issuer, _) = first_part(from_issuer)?;
+    Some(issuer)
 }
