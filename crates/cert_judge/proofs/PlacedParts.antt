@@ -3,9 +3,9 @@ use Rattle.std.specs.List.{concat, AllByRecursion}
 use Rattle.std.proofs.Common.{◌≡◌, ◌≢◌, ◌∙◌, sym, [], ◌∷◌, ℕ, ◌-◌, List, ◌++◌, length, arith, append_assoc}
 use Rattle.cert_model.specs.Parts.{IsPart}
 
-pub behind_none : (parts : List (List ℕ)) (rest s : List ℕ) (count : ℕ) → length parts ≡ count → count ≡ 0 → s ≡ concat parts ++ rest → s ≡ rest
-behind_none [] rest s count l z e = e
-behind_none (p ∷ ps) rest s count l z e = absurd (omega (arith, l, z))
+pub after_none : (parts : List (List ℕ)) (rest s : List ℕ) (count : ℕ) → length parts ≡ count → count ≡ 0 → s ≡ concat parts ++ rest → s ≡ rest
+after_none [] rest s count l z e = e
+after_none (p ∷ ps) rest s count l z e = absurd (omega (arith, l, z))
 
 -- the first of some parts, and the others
 pub first_of_parts : (parts : List (List ℕ)) (rest s : List ℕ) (count : ℕ) → AllByRecursion IsPart parts → length parts ≡ count → count ≢ 0 → s ≡ concat parts ++ rest

@@ -6,7 +6,7 @@ use Rattle.asn1_core.specs.Elements.{element_octets}
 use Rattle.cert_model.specs.Fields.{Algorithm, Name, Bits, Key, CivilTime, Certificate, RevocationList}
 use Rattle.cert_model.specs.Octets.{sequence_octets, explicit_octets, identifier_octets, relative_name_octets, time_octets, validity_octets, number_octets, algorithm_octets, name_octets, key_octets, optional_octets, implicit_bits_octets, tagged_extensions_octets, tbs_certificate_octets, certificate_octets, bit_field_octets, entries_octets, tbs_cert_list_octets, list_octets}
 use Rattle.cert_model.specs.Parts.{IsPart}
-use Rattle.cert_judge.specs.Windows.{fixed_parts, parts_of, optional_parts, tbs_content, behind_version, list_front, list_back, tbs_list_content, issuer_place}
+use Rattle.cert_judge.specs.Windows.{fixed_parts, optional_parts, tbs_content, behind_version, list_front, tbs_list_content, issuer_place}
 
 split : (b : Bool) (v : List ℕ) (fixed opts : List (List ℕ)) → concat ((if b then v else []) ∷ (fixed ++ opts)) ≡ concat (if b then v ∷ fixed else fixed) ++ concat opts
 split true v fixed opts = concat-append (v ∷ fixed) opts
@@ -87,15 +87,15 @@ counted false v parts = omega arith
 pub certificate_front_counted : (c : Certificate) (first : ℕ) → first ≡ (if nat_lt 0 c.version then 1 else 0) → length (certificate_front c) ≡ first + 2
 certificate_front_counted c first e = rw e (counted (nat_lt 0 c.version) (explicit_octets 0 (number_octets (c.version ∷ []))) (number_octets c.serial ∷ algorithm_octets c.signature ∷ []))
 
-parted : (b : Bool) (v s a : List ℕ) (behind opts : List (List ℕ)) → concat (if b then v ∷ s ∷ a ∷ behind else s ∷ a ∷ behind) ++ concat opts ≡ concat (if b then v ∷ s ∷ a ∷ [] else s ∷ a ∷ []) ++ concat (behind ++ opts)
-parted true v s a behind opts = sym (concat-append (v ∷ s ∷ a ∷ behind) opts) ∙ concat-append (v ∷ s ∷ a ∷ []) (behind ++ opts)
-parted false v s a behind opts = sym (concat-append (s ∷ a ∷ behind) opts) ∙ concat-append (s ∷ a ∷ []) (behind ++ opts)
+parted : (b : Bool) (v s a : List ℕ) (later opts : List (List ℕ)) → concat (if b then v ∷ s ∷ a ∷ later else s ∷ a ∷ later) ++ concat opts ≡ concat (if b then v ∷ s ∷ a ∷ [] else s ∷ a ∷ []) ++ concat (later ++ opts)
+parted true v s a later opts = sym (concat-append (v ∷ s ∷ a ∷ later) opts) ∙ concat-append (v ∷ s ∷ a ∷ []) (later ++ opts)
+parted false v s a later opts = sym (concat-append (s ∷ a ∷ later) opts) ∙ concat-append (s ∷ a ∷ []) (later ++ opts)
 
 pub tbs_content_parted : (c : Certificate) → tbs_content c ≡ concat (certificate_front c) ++ from_issuer c
 tbs_content_parted c =
-    let behind = name_octets c.issuer ∷ validity_octets c.not_before c.not_after ∷ name_octets c.subject ∷ key_octets c.key ∷ [] in
+    let later = name_octets c.issuer ∷ validity_octets c.not_before c.not_after ∷ name_octets c.subject ∷ key_octets c.key ∷ [] in
     let opts = optional_octets (implicit_bits_octets 1) c.issuer_id ∷ optional_octets (implicit_bits_octets 2) c.subject_id ∷ tagged_extensions_octets 3 c.extensions ∷ [] in
-    parted (nat_lt 0 c.version) (explicit_octets 0 (number_octets (c.version ∷ []))) (number_octets c.serial) (algorithm_octets c.signature) behind opts
+    parted (nat_lt 0 c.version) (explicit_octets 0 (number_octets (c.version ∷ []))) (number_octets c.serial) (algorithm_octets c.signature) later opts
 
 split_version : (o : Option ℕ) (front back : List (List ℕ)) → concat (optional_octets (λ version. number_octets (version ∷ [])) o ∷ (front ++ back)) ≡ concat (behind_version o front) ++ concat back
 split_version None front back = concat-append front back

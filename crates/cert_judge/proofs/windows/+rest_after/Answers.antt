@@ -1,10 +1,10 @@
 use Rattle.std.proofs.Common.{◌++◌}
 use Rattle.std.specs.List.{concat}
-use Rattle.cert_judge.proofs.PlacedParts.{behind_none, first_of_parts}
+use Rattle.cert_judge.proofs.PlacedParts.{after_none, first_of_parts}
 use Rattle.cert_judge.proofs.windows.+rest_after.Goals as goal
 
 pub returns-then-count-eq0 : goal.returns-then-count-eq0
-returns-then-count-eq0 t c = λ parts rest all l e. behind_none parts rest c.args.octets.now c.args.count l c.if-count-eq0.true e
+returns-then-count-eq0 t c = λ parts rest all l e. after_none parts rest c.args.octets.now c.args.count l c.if-count-eq0.true e
 
 pub returns-in_err-rest : goal.returns-in_err-rest
 returns-in_err-rest t c = λ parts rest all l e.
