@@ -1,6 +1,6 @@
 -- Lookups by digests.
 use Rattle.std.specs.Prelude.{◌↔◌, ◌⊎◌, IsTrue}
-use Rattle.std.proofs.Common.{◌≡◌, ◌∙◌, ap, sym, subst, refl, ℕ, ◌+◌, ◌-◌, ◌<◌, ◌≤◌, Bool, true, false, cond, List, [], ◌∷◌, ◌++◌, length, arith, get_or, map, Some, None, Bor, Vec, Global, Ordering, inl, inr}
+use Rattle.std.proofs.Common.{◌≡◌, ◌∙◌, ap, sym, subst, refl, ℕ, ◌+◌, ◌-◌, ◌<◌, ◌≤◌, Bool, true, false, cond, List, [], ◌∷◌, ◌++◌, length, arith, get_or, map, Option, Some, None, Bor, Vec, Global, Ordering, inl, inr}
 use Rattle.std.specs.Bool.{Decides}
 use Rattle.std.specs.List.{Contains}
 use Rattle.std.specs.List.Sorted.{IsStrictlyIncreasing}
@@ -262,33 +262,37 @@ set_first s w kd empty more k =
       λ e. m.1 (inr e),
     )
 
--- one pair more
-module _ (old new : BTreeMap (List ℕ) Keys) (id : List ℕ) (w : Keys) (written : (q : List ℕ) → mapped.get R new q ≡ cond (E id q) (Some w) (mapped.get R old q)) where
-  pub pair_pushed : (kd : List ℕ) → ((k : List ℕ) → HoldsKey w k ↔ (HasPair old k id ⊎ (k ≡ kd))) → (key item : List ℕ) → HasPair new key item ↔ (HasPair old key item ⊎ ((key ≡ kd) × (item ≡ id)))
+-- a pair is one that look-ups find
+abbrev pub Finds : (List ℕ → Option Keys) → List ℕ → List ℕ → Type 0
+Finds look key item = (keys : Keys) × (look item ≡ Some keys) × HoldsKey keys key
+
+-- one pair more, where a map is known by what is looked up in it
+module _ (old : BTreeMap (List ℕ) Keys) (look : List ℕ → Option Keys) (id : List ℕ) (w : Keys) (written : (q : List ℕ) → look q ≡ cond (E id q) (Some w) (mapped.get R old q)) where
+  pub pair_pushed : (kd : List ℕ) → ((k : List ℕ) → HoldsKey w k ↔ (HasPair old k id ⊎ (k ≡ kd))) → (key item : List ℕ) → Finds look key item ↔ (HasPair old key item ⊎ ((key ≡ kd) × (item ≡ id)))
   pair_pushed kd more key item = elim (cases_Bool (E id item)) [
     | inl t ↦
         let e : id ≡ item = (same id item).0 t in
-        let now : mapped.get R new item ≡ Some w = written item ∙ ap (λ b. cond b (Some w) (mapped.get R old item)) t in (
+        let now : look item ≡ Some w = written item ∙ ap (λ b. cond b (Some w) (mapped.get R old item)) t in (
           λ h. elim ((more key).0 (subst (λ z. HoldsKey z key) (one_some (sym h.1 ∙ now)) h.2)) [ inl x ↦ inl (subst (HasPair old key) e x) | inr y ↦ inr (y, sym e) ],
           λ x. elim x [ inl h ↦ (w, now, (more key).1 (inl (subst (HasPair old key) (sym e) h))) | inr y ↦ (w, now, (more key).1 (inr y.0)) ],
         )
     | inr f ↦
-        let now : mapped.get R new item ≡ mapped.get R old item = written item ∙ ap (λ b. cond b (Some w) (mapped.get R old item)) f in (
+        let now : look item ≡ mapped.get R old item = written item ∙ ap (λ b. cond b (Some w) (mapped.get R old item)) f in (
           λ h. inl (h.0, sym now ∙ h.1, h.2),
           λ x. elim x [ inl h ↦ (h.0, now ∙ h.1, h.2) | inr y ↦ absurd (false≢true (sym f ∙ (same id item).1 (sym y.1))) ],
         )
   ]
 
-  pub pair_refused : ((k : List ℕ) → HoldsKey w k ↔ HasPair old k id) → (key item : List ℕ) → HasPair new key item ↔ HasPair old key item
+  pub pair_refused : ((k : List ℕ) → HoldsKey w k ↔ HasPair old k id) → (key item : List ℕ) → Finds look key item ↔ HasPair old key item
   pair_refused kept key item = elim (cases_Bool (E id item)) [
     | inl t ↦
         let e : id ≡ item = (same id item).0 t in
-        let now : mapped.get R new item ≡ Some w = written item ∙ ap (λ b. cond b (Some w) (mapped.get R old item)) t in (
+        let now : look item ≡ Some w = written item ∙ ap (λ b. cond b (Some w) (mapped.get R old item)) t in (
           λ h. subst (HasPair old key) e ((kept key).0 (subst (λ z. HoldsKey z key) (one_some (sym h.1 ∙ now)) h.2)),
           λ h. (w, now, (kept key).1 (subst (HasPair old key) (sym e) h)),
         )
     | inr f ↦
-        let now : mapped.get R new item ≡ mapped.get R old item = written item ∙ ap (λ b. cond b (Some w) (mapped.get R old item)) f in
+        let now : look item ≡ mapped.get R old item = written item ∙ ap (λ b. cond b (Some w) (mapped.get R old item)) f in
         (λ h. (h.0, sym now ∙ h.1, h.2), λ h. (h.0, now ∙ h.1, h.2))
   ]
 

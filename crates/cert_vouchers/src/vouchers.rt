@@ -10,6 +10,7 @@ use cert_judge::Vouch;
 use sha2::{Digest, Sha256};
 use std::alloc::{AllocError, Global};
 use std::collections::BTreeMap;
+use std::collections::btree_map::Entry;
 
 /// Computes each digest that is asked for.
 struct Computed;
@@ -54,11 +55,12 @@ impl Vouchers {
         ensures pushed { OnOk result ((key item : List ℕ) → HasPair self.new.pairs key item ↔ (HasPair self.old.pairs key item ⊎ ((key ≡ key_digest) × (item ≡ item_digest)))) }
         ensures refused { OnErr result ((key item : List ℕ) → HasPair self.new.pairs key item ↔ HasPair self.old.pairs key item) }
     {
-        if let Some(keys) = self.pairs.get_mut(&item_digest) {
-            keys.add(self.alloc, key_digest)?;
-            return Ok(());
+        match self.pairs.entry(item_digest)? {
+            Entry::Occupied(keys) => keys.into_mut().add(self.alloc, key_digest)?,
+            Entry::Vacant(place) => {
+                place.insert(Keys::One(key_digest));
+            }
         }
-        self.pairs.insert(item_digest, Keys::One(key_digest))?;
         Ok(())
     }
 }
