@@ -369,7 +369,7 @@ fn tails_to_anchors<'a, V: Vouch>(
     kept: &mut Kept<'_>,
     question: &Question<'_, 'a, V>,
     place: usize,
-    certificate: &CertificateItem<'_>,
+    certificate: &CertificateItem<'a>,
     linking: &Linking<'_, '_>,
     roots: &[usize],
     first: usize,
