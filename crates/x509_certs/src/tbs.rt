@@ -12,7 +12,7 @@ ghost use Rattle.x509_time.specs.View.{validity_view};
 ghost use Rattle.x509_ext.specs.Values.{serial_text};
 ghost use Rattle.x509_ext.specs.Fields.{reading_of};
 ghost use Rattle.x509_ext.specs.Lookup.{all_of, first_of, only_of, seen};
-ghost use Rattle.x509_ext.specs.View.{WantsNoMemory, extension_error, extension_view, identifier_view};
+ghost use Rattle.x509_ext.specs.View.{IsCountedExtension, WantsNoMemory, extension_error, extension_view, identifier_view};
 ghost use Rattle.x509_certs.specs.Reading.{start_at, binding_at, end_at, tbs_in, tbs_at};
 ghost use Rattle.x509_certs.specs.View.{tbs_view, HasSerial, IsCountedTbs};
 
@@ -297,6 +297,7 @@ fn next_end<'a>(
 ) -> Result<End<'a>, Refusal<X509Error>>
     requires { attempts count.old + 6 * length parts.old.octets < 2 ^ 128 }
     ensures read { Gives (λ v. (option_map identifier_view v.issuer_uid, option_map identifier_view v.subject_uid, map extension_view v.extensions.items)) result (end_at (reading_of deep) parts.old.octets) }
+    ensures counted { IfOk result (λ v. All IsCountedExtension v.extensions.items) }
     ensures memory { IfOk result (λ v. All WantsNoMemory v.extensions.items) }
     ensures grows { attempts count.old ≤ attempts count.new }
     ensures most { attempts count.new ≤ attempts count.old + 6 * length parts.old.octets }

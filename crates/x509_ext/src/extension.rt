@@ -7,10 +7,10 @@ ghost use Rattle.x509_core.specs.Answers.{Gives};
 ghost use Rattle.x509_core.specs.Reading.{next};
 ghost use Rattle.x509_names.specs.Reading.{octets_in};
 ghost use Rattle.x509_ext_parse.specs.Cases.{HoldsNoMemory};
-ghost use Rattle.x509_ext_parse.specs.View.{parsed_view};
+ghost use Rattle.x509_ext_parse.specs.View.{HasCountedElements, parsed_view};
 ghost use Rattle.x509_ext.specs.Fields.{reading_of};
 ghost use Rattle.x509_ext.specs.Reading.{boolean_in, critical_at, extension_in};
-ghost use Rattle.x509_ext.specs.View.{extension_view, extension_error, WantsNoMemory};
+ghost use Rattle.x509_ext.specs.View.{extension_view, extension_error, IsCountedExtension, WantsNoMemory};
 
 use asn1_any::{Any, Element};
 use asn1_core::{Err as Refusal, HeaderCount, OutOfMemory};
@@ -138,6 +138,7 @@ fn parsed_value<'a>(
     deep: bool,
 ) -> Result<ParsedExtension<'a>, OutOfMemory>
     ensures read { IfOk result (λ p. parsed_view p ≡ reading_of deep oid.now value.now) }
+    ensures counted { IfOk result HasCountedElements }
     ensures memory { IfOk result HoldsNoMemory }
 {
     if deep {
@@ -162,6 +163,7 @@ pub fn extension_of<'a>(
 ) -> Result<X509Extension<'a>, Refusal<X509Error>>
     requires { attempts count.old + length element.any.content.now < 2 ^ 128 }
     ensures read { Gives extension_view result (extension_in (reading_of deep) (any_of element.entry.any)) }
+    ensures counted { IfOk result IsCountedExtension }
     ensures memory { IfOk result WantsNoMemory }
     ensures grows { attempts count.old ≤ attempts count.new }
     ensures most { attempts count.new ≤ attempts count.old + length element.entry.any.content.now }

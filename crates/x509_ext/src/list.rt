@@ -7,7 +7,7 @@ ghost use Rattle.x509_core.specs.Answers.{Gives, ManyGive};
 ghost use Rattle.x509_core.specs.Reading.{many_of};
 ghost use Rattle.x509_ext.specs.Fields.{reading_of};
 ghost use Rattle.x509_ext.specs.Reading.{extension_at, extension_list_in, extension_list_at, extensions_at};
-ghost use Rattle.x509_ext.specs.View.{extension_view, WantsNoMemory};
+ghost use Rattle.x509_ext.specs.View.{extension_view, IsCountedExtension, WantsNoMemory};
 
 use crate::extension::{X509Extension, extension_of};
 use asn1_any::Element;
@@ -29,6 +29,7 @@ pub fn each_extension<'a>(
 ) -> Result<Vec<X509Extension<'a>>, Refusal<X509Error>>
     requires { attempts count.old + length parts.old.octets < 2 ^ 128 }
     ensures read { ManyGive (λ v. map extension_view v.items) result (many_of (extension_at (reading_of deep)) parts.old.octets) parts.new.octets }
+    ensures counted { IfOk result (λ v. All IsCountedExtension v.items) }
     ensures memory { IfOk result (λ v. All WantsNoMemory v.items) }
     ensures grows { attempts count.old ≤ attempts count.new }
     ensures most { attempts count.new ≤ attempts count.old + length parts.old.octets }
@@ -64,6 +65,7 @@ pub fn extension_list_of<'a>(
 ) -> Result<Vec<X509Extension<'a>>, Refusal<X509Error>>
     requires { attempts count.old + 2 * length element.any.content.now < 2 ^ 128 }
     ensures read { Gives (λ v. map extension_view v.items) result (extension_list_in (reading_of deep) (any_of element.entry.any)) }
+    ensures counted { IfOk result (λ v. All IsCountedExtension v.items) }
     ensures memory { IfOk result (λ v. All WantsNoMemory v.items) }
     ensures grows { attempts count.old ≤ attempts count.new }
     ensures most { attempts count.new ≤ attempts count.old + 2 * length element.entry.any.content.now }
@@ -87,6 +89,7 @@ fn last_list<'a>(
 ) -> Result<Vec<X509Extension<'a>>, Refusal<X509Error>>
     requires { attempts count.old + 2 * length parts.old.octets < 2 ^ 128 }
     ensures read { Gives (λ v. map extension_view v.items) result (extension_list_at (reading_of deep) parts.old.octets) }
+    ensures counted { IfOk result (λ v. All IsCountedExtension v.items) }
     ensures memory { IfOk result (λ v. All WantsNoMemory v.items) }
     ensures grows { attempts count.old ≤ attempts count.new }
     ensures most { attempts count.new ≤ attempts count.old + 2 * length parts.old.octets }
@@ -109,6 +112,7 @@ fn all_extensions<'a>(
 ) -> Result<Vec<X509Extension<'a>>, Refusal<X509Error>>
     requires { attempts count.old + 3 * length octets.now < 2 ^ 128 }
     ensures read { Gives (λ v. map extension_view v.items) result (extension_list_at (reading_of deep) octets.now) }
+    ensures counted { IfOk result (λ v. All IsCountedExtension v.items) }
     ensures memory { IfOk result (λ v. All WantsNoMemory v.items) }
     ensures grows { attempts count.old ≤ attempts count.new }
     ensures most { attempts count.new ≤ attempts count.old + 3 * length octets.now }
@@ -132,6 +136,7 @@ pub fn extensions_of<'a>(
 ) -> Result<Vec<X509Extension<'a>>, Refusal<X509Error>>
     requires { attempts count.old + 4 * length left.now < 2 ^ 128 }
     ensures read { Gives (λ v. map extension_view v.items) result (extensions_at (reading_of deep) tag left.now) }
+    ensures counted { IfOk result (λ v. All IsCountedExtension v.items) }
     ensures memory { IfOk result (λ v. All WantsNoMemory v.items) }
     ensures grows { attempts count.old ≤ attempts count.new }
     ensures most { attempts count.new ≤ attempts count.old + 4 * length left.now }

@@ -11,7 +11,7 @@ ghost use Rattle.x509_ext_parse.specs.Parsed.{IsParsed};
 ghost use Rattle.x509_ext_parse.specs.Reading.{deeply};
 ghost use Rattle.x509_ext.specs.Fields.{Extension, meaning_of, reading_of};
 ghost use Rattle.x509_ext.specs.Reading.{named_extension_at};
-ghost use Rattle.x509_ext.specs.View.{extension_view, WantsNoMemory};
+ghost use Rattle.x509_ext.specs.View.{extension_view, IsCountedExtension, WantsNoMemory};
 ghost use Rattle.x509_core.specs.declared.error.X509Error.TheVariants as errors;
 
 use crate::extension::{X509Extension, extension_of};
@@ -55,6 +55,7 @@ impl X509ExtensionParser {
     pub fn parse<'a>(&self, alloc: Global, i: &'a [u8]) -> X509Result<'a, X509Extension<'a>>
         ensures exact { Gives (λ r. (extension_view r.1, r.0.now)) result (named_extension_at (reading_of self.now.deep_parse_extensions) i.now) }
         ensures refused { IfErr result (IsOnly errors.InvalidExtensions) }
+        ensures counted { IfOk result (λ r. IsCountedExtension r.1) }
         ensures memory { IfOk result (λ r. WantsNoMemory r.1) }
         ensures found { IfOk result (λ r. grammar.X509Extension (meaning_of self.now.deep_parse_extensions) i.now (extension_view r.1) r.0.now) }
         ensures only { (v : Extension) (rest : List ℕ) → grammar.X509Extension (meaning_of self.now.deep_parse_extensions) i.now v rest
@@ -96,6 +97,7 @@ impl<'a> FromDer<'a, X509Error> for X509Extension<'a> {
             (λ i v r. grammar.X509Extension IsParsed i (extension_view v) r) bytes.now result }
         ensures exact { Gives (λ r. (extension_view r.1, r.0.now)) result (named_extension_at deeply bytes.now) }
         ensures refused { IfErr result (IsOnly errors.InvalidExtensions) }
+        ensures counted { IfOk result (λ r. IsCountedExtension r.1) }
         ensures memory { IfOk result (λ r. WantsNoMemory r.1) }
         ensures found { IfOk result (λ r. grammar.X509Extension IsParsed bytes.now (extension_view r.1) r.0.now) }
         ensures only { (v : Extension) (rest : List ℕ) → grammar.X509Extension IsParsed bytes.now v rest
@@ -112,6 +114,7 @@ fn extension_at_front<'a>(
 ) -> X509Result<'a, X509Extension<'a>>
     ensures exact { Gives (λ r. (extension_view r.1, r.0.now)) result (named_extension_at (reading_of deep) i.now) }
     ensures refused { IfErr result (IsOnly errors.InvalidExtensions) }
+    ensures counted { IfOk result (λ r. IsCountedExtension r.1) }
     ensures memory { IfOk result (λ r. WantsNoMemory r.1) }
 {
     let mut count = HeaderCount::new();

@@ -1,8 +1,8 @@
 -- What the values of this crate's types are, as the data of `Values`.
-use Rattle.std.specs.Prelude.{List, option_map, map}
+use Rattle.std.specs.Prelude.{List, All, IfSome, option_map, map}
 use Rattle.asn1_any.specs.CutViews.{HasOwnLength}
 use Rattle.asn1_any.specs.Views.{any_of}
-use Rattle.x509_names.specs.View.{name_view}
+use Rattle.x509_names.specs.View.{IsCountedName, name_view}
 use Rattle.x509_ext_flags.specs.View.{key_identifier_view}
 use Rattle.x509_ext_names.specs.Values as values
 use Rattle.x509_ext_names.specs.declared.general_name.GeneralName.{GeneralName}
@@ -28,11 +28,12 @@ general_name_view (names.IPAddress octets) = values.ip_address octets.now
 general_name_view (names.RegisteredID id) = values.registered_id id
 general_name_view (names.Invalid tag octets) = values.invalid tag.0 octets.now
 
--- the header of an element that isn't parsed has the length of its content
-abbrev pub HasCountedAddress : GeneralName → Type 0
-HasCountedAddress (names.X400Address any) = HasOwnLength any
-HasCountedAddress (names.EDIPartyName any) = HasOwnLength any
-HasCountedAddress name = Unit {0}
+-- the elements in a name have the lengths of their contents: one that isn't parsed, and the values of a distinguished name
+abbrev pub IsCountedGeneralName : GeneralName → Type 0
+IsCountedGeneralName (names.X400Address any) = HasOwnLength any
+IsCountedGeneralName (names.DirectoryName name) = IsCountedName name
+IsCountedGeneralName (names.EDIPartyName any) = HasOwnLength any
+IsCountedGeneralName name = Unit {0}
 
 abbrev pub authority_key_view : AuthorityKeyIdentifier → values.AuthorityKeyIdentifier
 authority_key_view a = record {
@@ -41,8 +42,16 @@ authority_key_view a = record {
   authority_cert_serial = option_map (λ o. o.now) a.authority_cert_serial;
 }
 
+-- the elements in its names have the lengths of their contents
+abbrev pub IsCountedIdentifier : AuthorityKeyIdentifier → Type 0
+IsCountedIdentifier a = IfSome a.authority_cert_issuer (λ v. All IsCountedGeneralName v.items)
+
 abbrev pub subtree_view : GeneralSubtree → values.GeneralName
 subtree_view s = general_name_view s.base
+
+-- so have those in its base
+abbrev pub IsCountedSubtree : GeneralSubtree → Type 0
+IsCountedSubtree s = IsCountedGeneralName s.base
 
 abbrev pub name_constraints_view : NameConstraints → values.NameConstraints
 name_constraints_view c = record {
@@ -50,8 +59,16 @@ name_constraints_view c = record {
   excluded_subtrees = option_map (λ v. map subtree_view v.items) c.excluded_subtrees;
 }
 
+-- so have those in each of its subtrees
+abbrev pub HasCountedSubtrees : NameConstraints → Type 0
+HasCountedSubtrees c = IfSome c.permitted_subtrees (λ v. All IsCountedSubtree v.items) × IfSome c.excluded_subtrees (λ v. All IsCountedSubtree v.items)
+
 abbrev pub access_view : AccessDescription → values.AccessDescription
 access_view d = record { access_method = d.access_method; access_location = general_name_view d.access_location }
+
+-- so have those in its location
+abbrev pub HasCountedLocation : AccessDescription → Type 0
+HasCountedLocation d = IsCountedGeneralName d.access_location
 
 abbrev pub authority_info_view : AuthorityInfoAccess → List values.AccessDescription
 authority_info_view a = map access_view a.accessdescs.items

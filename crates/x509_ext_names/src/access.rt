@@ -1,6 +1,6 @@
 //! `AuthorityInfoAccess` and `SubjectInfoAccess` (RFC 5280, 4.2.2).
 
-ghost use Rattle.std.specs.Prelude.{◌≡◌, ◌<◌, ℕ, List, length, IfOk, IfErr};
+ghost use Rattle.std.specs.Prelude.{◌≡◌, ◌<◌, ℕ, List, length, All, IfOk, IfErr};
 ghost use Rattle.asn1_any.specs.CutViews.{piece_of};
 ghost use Rattle.asn1_any.specs.Views.{any_of};
 ghost use Rattle.asn1_traits.specs.Elements.{EndsWithinElement};
@@ -13,7 +13,7 @@ ghost use Rattle.x509_core.specs.Grammar.{Holds, ToEnd};
 ghost use Rattle.x509_ext_names.specs.Extensions as grammar;
 ghost use Rattle.x509_ext_names.specs.Reading.{access_parts_at, access_in, access_at, info_access_in, info_access_at};
 ghost use Rattle.x509_ext_names.specs.Values as values;
-ghost use Rattle.x509_ext_names.specs.View.{access_view, authority_info_view, subject_info_view};
+ghost use Rattle.x509_ext_names.specs.View.{HasCountedLocation, access_view, authority_info_view, subject_info_view};
 
 use crate::general_name::{GeneralName, general_name_at_front};
 use asn1_any::Element;
@@ -120,7 +120,8 @@ impl<'a> SubjectInfoAccess<'a> {
 
 #[tactic(auto, unfolding(crate::specs::Reading::access_parts_at))]
 fn access_parts<'a>(alloc: Global, i: &'a [u8]) -> X509Result<'a, AccessDescription<'a>>
-    ensures { Gives (λ r. (access_view r.1, r.0.now)) result (access_parts_at i.now) }
+    ensures read { Gives (λ r. (access_view r.1, r.0.now)) result (access_parts_at i.now) }
+    ensures counted { IfOk result (λ r. HasCountedLocation r.1) }
 {
     let (i, access_method) = first_oid(i)?;
     let (i, access_location) = general_name_at_front(alloc, i)?;
@@ -135,6 +136,7 @@ fn access_parts<'a>(alloc: Global, i: &'a [u8]) -> X509Result<'a, AccessDescript
 
 fn access_at_front<'a>(alloc: Global, i: &'a [u8]) -> X509Result<'a, AccessDescription<'a>>
     ensures exact { Gives (λ r. (access_view r.1, r.0.now)) result (access_at i.now) }
+    ensures counted { IfOk result (λ r. HasCountedLocation r.1) }
     ensures shorter { IfOk result (λ r. length r.0.now < length i.now) }
 {
     let mut count = HeaderCount::new();
@@ -147,13 +149,15 @@ fn access_at_front<'a>(alloc: Global, i: &'a [u8]) -> X509Result<'a, AccessDescr
 impl<'a> Begins<'a> for AccessDescription<'a> {
     ghost use Rattle.x509_ext_names.specs.Reading.{access_at};
     ghost use Rattle.x509_ext_names.specs.Values as values;
-    ghost use Rattle.x509_ext_names.specs.View.{access_view};
+    ghost use Rattle.x509_ext_names.specs.View.{HasCountedLocation, access_view};
 
     ghost Data = { values.AccessDescription };
 
     ghost stands_for = { access_view };
 
     ghost reader = { access_at };
+
+    ghost IsCounted = { HasCountedLocation };
 
     fn begin(
         alloc: Global,
@@ -167,7 +171,8 @@ fn descriptions_of<'a>(
     alloc: Global,
     element: Element<'a>,
 ) -> Result<Vec<AccessDescription<'a>>, Refusal<X509Error>>
-    ensures { Gives (λ v. map access_view v.items) result (info_access_in (piece_of element.entry)) }
+    ensures read { Gives (λ v. map access_view v.items) result (info_access_in (piece_of element.entry)) }
+    ensures counted { IfOk result (λ v. All HasCountedLocation v.items) }
 {
     let content = content_of(16, element.any)?;
     told(all(alloc, content))
@@ -177,7 +182,8 @@ fn authority_info_of<'a>(
     alloc: Global,
     element: Element<'a>,
 ) -> Result<AuthorityInfoAccess<'a>, Refusal<X509Error>>
-    ensures { Gives authority_info_view result (info_access_in (piece_of element.entry)) }
+    ensures read { Gives authority_info_view result (info_access_in (piece_of element.entry)) }
+    ensures counted { IfOk result (λ v. All HasCountedLocation v.accessdescs.items) }
 {
     let accessdescs = descriptions_of(alloc, element)?;
     Ok(AuthorityInfoAccess { accessdescs })
@@ -187,7 +193,8 @@ fn subject_info_of<'a>(
     alloc: Global,
     element: Element<'a>,
 ) -> Result<SubjectInfoAccess<'a>, Refusal<X509Error>>
-    ensures { Gives subject_info_view result (info_access_in (piece_of element.entry)) }
+    ensures read { Gives subject_info_view result (info_access_in (piece_of element.entry)) }
+    ensures counted { IfOk result (λ v. All HasCountedLocation v.accessdescs.items) }
 {
     let accessdescs = descriptions_of(alloc, element)?;
     Ok(SubjectInfoAccess { accessdescs })
@@ -218,6 +225,7 @@ impl<'a> FromDer<'a, X509Error> for AuthorityInfoAccess<'a> {
         ensures found { IfOk result (λ r. grammar.InfoAccess bytes.now (authority_info_view r.1) r.0.now) }
         ensures only { (v : List values.AccessDescription) (rest : List ℕ) → grammar.InfoAccess bytes.now v rest
             → ElseMemory result (λ r. (authority_info_view r.1 ≡ v) × (r.0.now ≡ rest)) }
+        ensures counted { IfOk result (λ r. All HasCountedLocation r.1.accessdescs.items) }
     {
         authority_info_at_front(alloc, bytes)
     }
@@ -228,6 +236,7 @@ fn authority_info_at_front<'a>(
     i: &'a [u8],
 ) -> X509Result<'a, AuthorityInfoAccess<'a>>
     ensures exact { Gives (λ r. (authority_info_view r.1, r.0.now)) result (info_access_at i.now) }
+    ensures counted { IfOk result (λ r. All HasCountedLocation r.1.accessdescs.items) }
     ensures missing { TellsMissing i.now result }
     ensures shorter { IfOk result (λ r. length r.0.now < length i.now) }
 {
@@ -264,6 +273,7 @@ impl<'a> FromDer<'a, X509Error> for SubjectInfoAccess<'a> {
         ensures found { IfOk result (λ r. grammar.InfoAccess bytes.now (subject_info_view r.1) r.0.now) }
         ensures only { (v : List values.AccessDescription) (rest : List ℕ) → grammar.InfoAccess bytes.now v rest
             → ElseMemory result (λ r. (subject_info_view r.1 ≡ v) × (r.0.now ≡ rest)) }
+        ensures counted { IfOk result (λ r. All HasCountedLocation r.1.accessdescs.items) }
     {
         subject_info_at_front(alloc, bytes)
     }
@@ -271,6 +281,7 @@ impl<'a> FromDer<'a, X509Error> for SubjectInfoAccess<'a> {
 
 fn subject_info_at_front<'a>(alloc: Global, i: &'a [u8]) -> X509Result<'a, SubjectInfoAccess<'a>>
     ensures exact { Gives (λ r. (subject_info_view r.1, r.0.now)) result (info_access_at i.now) }
+    ensures counted { IfOk result (λ r. All HasCountedLocation r.1.accessdescs.items) }
     ensures missing { TellsMissing i.now result }
     ensures shorter { IfOk result (λ r. length r.0.now < length i.now) }
 {

@@ -1,7 +1,7 @@
 //! `SubjectAlternativeName` and `IssuerAlternativeName` (RFC 5280, 4.2.1.6 and 4.2.1.7), and
 //! readers of general names under a tag.
 
-ghost use Rattle.std.specs.Prelude.{◌≡◌, ◌<◌, ℕ, List, length, IfOk, IfErr};
+ghost use Rattle.std.specs.Prelude.{◌≡◌, ◌<◌, ℕ, List, length, All, IfOk, IfErr, IfSome};
 ghost use Rattle.asn1_any.specs.CutViews.{piece_of};
 ghost use Rattle.asn1_any.specs.Views.{any_of};
 ghost use Rattle.asn1_traits.specs.Elements.{EndsWithinElement};
@@ -16,7 +16,7 @@ ghost use Rattle.x509_ext_names.specs.Extensions as grammar;
 ghost use Rattle.x509_ext_names.specs.Names.{GeneralName};
 ghost use Rattle.x509_ext_names.specs.Reading.{alternative_in, alternative_at, general_name_at, many_names_at, some_names_at};
 ghost use Rattle.x509_ext_names.specs.Values as values;
-ghost use Rattle.x509_ext_names.specs.View.{general_name_view, subject_names_view, issuer_names_view};
+ghost use Rattle.x509_ext_names.specs.View.{IsCountedGeneralName, general_name_view, subject_names_view, issuer_names_view};
 
 use crate::general_name::GeneralName;
 use asn1_any::Element;
@@ -72,7 +72,8 @@ fn names_of<'a>(
     alloc: Global,
     element: Element<'a>,
 ) -> Result<Vec<GeneralName<'a>>, Refusal<X509Error>>
-    ensures { Gives (λ v. map general_name_view v.items) result (alternative_in (piece_of element.entry)) }
+    ensures read { Gives (λ v. map general_name_view v.items) result (alternative_in (piece_of element.entry)) }
+    ensures counted { IfOk result (λ v. All IsCountedGeneralName v.items) }
 {
     let content = content_of(16, element.any)?;
     told(all(alloc, content))
@@ -82,7 +83,8 @@ fn subject_names_of<'a>(
     alloc: Global,
     element: Element<'a>,
 ) -> Result<SubjectAlternativeName<'a>, Refusal<X509Error>>
-    ensures { Gives subject_names_view result (alternative_in (piece_of element.entry)) }
+    ensures read { Gives subject_names_view result (alternative_in (piece_of element.entry)) }
+    ensures counted { IfOk result (λ v. All IsCountedGeneralName v.general_names.items) }
 {
     let general_names = names_of(alloc, element)?;
     Ok(SubjectAlternativeName { general_names })
@@ -92,7 +94,8 @@ fn issuer_names_of<'a>(
     alloc: Global,
     element: Element<'a>,
 ) -> Result<IssuerAlternativeName<'a>, Refusal<X509Error>>
-    ensures { Gives issuer_names_view result (alternative_in (piece_of element.entry)) }
+    ensures read { Gives issuer_names_view result (alternative_in (piece_of element.entry)) }
+    ensures counted { IfOk result (λ v. All IsCountedGeneralName v.general_names.items) }
 {
     let general_names = names_of(alloc, element)?;
     Ok(IssuerAlternativeName { general_names })
@@ -100,7 +103,8 @@ fn issuer_names_of<'a>(
 
 // As many names as begin the content of an element of this tag number.
 fn many_names<'a>(alloc: Global, tag: u32, i: &'a [u8]) -> X509Result<'a, Vec<GeneralName<'a>>>
-    ensures { Gives (λ r. (map general_name_view r.1.items, r.0.now)) result (many_names_at tag i.now) }
+    ensures read { Gives (λ r. (map general_name_view r.1.items, r.0.now)) result (many_names_at tag i.now) }
+    ensures counted { IfOk result (λ r. All IsCountedGeneralName r.1.items) }
 {
     let mut count = HeaderCount::new();
     let (rest, element) = front_element(i, &mut count)?;
@@ -117,7 +121,8 @@ pub fn next_many_names<'a>(
     tag: u32,
     i: &'a [u8],
 ) -> X509Result<'a, Option<Vec<GeneralName<'a>>>>
-    ensures { Gives (λ r. (option_map (λ v. map general_name_view v.items) r.1, r.0.now)) result (Ok (maybe_of (many_names_at tag) i.now)) }
+    ensures read { Gives (λ r. (option_map (λ v. map general_name_view v.items) r.1, r.0.now)) result (Ok (maybe_of (many_names_at tag) i.now)) }
+    ensures counted { IfOk result (λ r. IfSome r.1 (λ v. All IsCountedGeneralName v.items)) }
 {
     optional(i, many_names(alloc, tag, i))
 }
@@ -128,14 +133,16 @@ pub fn next_many_names<'a>(
 ///
 /// The error of the first name; out of memory.
 pub fn general_names<'a>(alloc: Global, i: &'a [u8]) -> X509Result<'a, Vec<GeneralName<'a>>>
-    ensures { Gives (λ r. (map general_name_view r.1.items, r.0.now)) result (some_of general_name_at i.now) }
+    ensures read { Gives (λ r. (map general_name_view r.1.items, r.0.now)) result (some_of general_name_at i.now) }
+    ensures counted { IfOk result (λ r. All IsCountedGeneralName r.1.items) }
 {
     told_front(some(alloc, i))
 }
 
 // One name or more at the front of the content of an element of this tag number.
 fn some_names<'a>(alloc: Global, tag: u32, i: &'a [u8]) -> X509Result<'a, Vec<GeneralName<'a>>>
-    ensures { Gives (λ r. (map general_name_view r.1.items, r.0.now)) result (some_names_at tag i.now) }
+    ensures read { Gives (λ r. (map general_name_view r.1.items, r.0.now)) result (some_names_at tag i.now) }
+    ensures counted { IfOk result (λ r. All IsCountedGeneralName r.1.items) }
 {
     let mut count = HeaderCount::new();
     let (rest, element) = front_element(i, &mut count)?;
@@ -150,7 +157,8 @@ pub fn next_some_names<'a>(
     tag: u32,
     i: &'a [u8],
 ) -> X509Result<'a, Option<Vec<GeneralName<'a>>>>
-    ensures { Gives (λ r. (option_map (λ v. map general_name_view v.items) r.1, r.0.now)) result (Ok (maybe_of (some_names_at tag) i.now)) }
+    ensures read { Gives (λ r. (option_map (λ v. map general_name_view v.items) r.1, r.0.now)) result (Ok (maybe_of (some_names_at tag) i.now)) }
+    ensures counted { IfOk result (λ r. IfSome r.1 (λ v. All IsCountedGeneralName v.items)) }
 {
     optional(i, some_names(alloc, tag, i))
 }
@@ -180,6 +188,7 @@ impl<'a> FromDer<'a, X509Error> for SubjectAlternativeName<'a> {
         ensures found { IfOk result (λ r. grammar.AlternativeName bytes.now (subject_names_view r.1) r.0.now) }
         ensures only { (v : List values.GeneralName) (rest : List ℕ) → grammar.AlternativeName bytes.now v rest
             → ElseMemory result (λ r. (subject_names_view r.1 ≡ v) × (r.0.now ≡ rest)) }
+        ensures counted { IfOk result (λ r. All IsCountedGeneralName r.1.general_names.items) }
     {
         subject_names_at_front(alloc, bytes)
     }
@@ -190,6 +199,7 @@ fn subject_names_at_front<'a>(
     i: &'a [u8],
 ) -> X509Result<'a, SubjectAlternativeName<'a>>
     ensures exact { Gives (λ r. (subject_names_view r.1, r.0.now)) result (alternative_at i.now) }
+    ensures counted { IfOk result (λ r. All IsCountedGeneralName r.1.general_names.items) }
     ensures missing { TellsMissing i.now result }
     ensures shorter { IfOk result (λ r. length r.0.now < length i.now) }
 {
@@ -226,6 +236,7 @@ impl<'a> FromDer<'a, X509Error> for IssuerAlternativeName<'a> {
         ensures found { IfOk result (λ r. grammar.AlternativeName bytes.now (issuer_names_view r.1) r.0.now) }
         ensures only { (v : List values.GeneralName) (rest : List ℕ) → grammar.AlternativeName bytes.now v rest
             → ElseMemory result (λ r. (issuer_names_view r.1 ≡ v) × (r.0.now ≡ rest)) }
+        ensures counted { IfOk result (λ r. All IsCountedGeneralName r.1.general_names.items) }
     {
         issuer_names_at_front(alloc, bytes)
     }
@@ -236,6 +247,7 @@ fn issuer_names_at_front<'a>(
     i: &'a [u8],
 ) -> X509Result<'a, IssuerAlternativeName<'a>>
     ensures exact { Gives (λ r. (issuer_names_view r.1, r.0.now)) result (alternative_at i.now) }
+    ensures counted { IfOk result (λ r. All IsCountedGeneralName r.1.general_names.items) }
     ensures missing { TellsMissing i.now result }
     ensures shorter { IfOk result (λ r. length r.0.now < length i.now) }
 {

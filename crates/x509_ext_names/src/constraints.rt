@@ -1,6 +1,6 @@
 //! A nameConstraints: the names that certificates below the subject may have (RFC 5280, 4.2.1.10).
 
-ghost use Rattle.std.specs.Prelude.{◌≡◌, ◌<◌, ℕ, List, length, IfOk, IfErr};
+ghost use Rattle.std.specs.Prelude.{◌≡◌, ◌<◌, ℕ, List, length, All, IfOk, IfErr, IfSome};
 ghost use Rattle.asn1_any.specs.CutViews.{piece_of};
 ghost use Rattle.asn1_any.specs.Views.{any_of};
 ghost use Rattle.asn1_traits.specs.Elements.{EndsWithinElement};
@@ -14,7 +14,7 @@ ghost use Rattle.x509_items.specs.Reading.{maybe_of};
 ghost use Rattle.x509_ext_names.specs.Extensions as grammar;
 ghost use Rattle.x509_ext_names.specs.Reading.{subtree_in, subtree_at, subtrees_at, subtrees_in, name_constraints_parts_at, name_constraints_in, name_constraints_at};
 ghost use Rattle.x509_ext_names.specs.Values as values;
-ghost use Rattle.x509_ext_names.specs.View.{subtree_view, name_constraints_view};
+ghost use Rattle.x509_ext_names.specs.View.{HasCountedSubtrees, IsCountedSubtree, subtree_view, name_constraints_view};
 
 use crate::general_name::{GeneralName, general_name_at_front};
 use asn1_any::Element;
@@ -88,6 +88,7 @@ impl<'a> NameConstraints<'a> {
 // A subtree at the front; what comes after its base is ignored.
 fn subtree_at_front<'a>(alloc: Global, i: &'a [u8]) -> X509Result<'a, GeneralSubtree<'a>>
     ensures exact { Gives (λ r. (subtree_view r.1, r.0.now)) result (subtree_at i.now) }
+    ensures counted { IfOk result (λ r. IsCountedSubtree r.1) }
     ensures shorter { IfOk result (λ r. length r.0.now < length i.now) }
 {
     let mut count = HeaderCount::new();
@@ -100,13 +101,15 @@ fn subtree_at_front<'a>(alloc: Global, i: &'a [u8]) -> X509Result<'a, GeneralSub
 impl<'a> Begins<'a> for GeneralSubtree<'a> {
     ghost use Rattle.x509_ext_names.specs.Reading.{subtree_at};
     ghost use Rattle.x509_ext_names.specs.Values as values;
-    ghost use Rattle.x509_ext_names.specs.View.{subtree_view};
+    ghost use Rattle.x509_ext_names.specs.View.{IsCountedSubtree, subtree_view};
 
     ghost Data = { values.GeneralName };
 
     ghost stands_for = { subtree_view };
 
     ghost reader = { subtree_at };
+
+    ghost IsCounted = { IsCountedSubtree };
 
     fn begin(
         alloc: Global,
@@ -121,7 +124,8 @@ fn subtrees_of<'a>(
     alloc: Global,
     content: &'a [u8],
 ) -> Result<Vec<GeneralSubtree<'a>>, Refusal<X509Error>>
-    ensures { Gives (λ v. map subtree_view v.items) result (subtrees_in content.now) }
+    ensures read { Gives (λ v. map subtree_view v.items) result (subtrees_in content.now) }
+    ensures counted { IfOk result (λ v. All IsCountedSubtree v.items) }
 {
     let (rest, subtrees) = told_front(some(alloc, content))?;
     if rest.is_empty() {
@@ -136,7 +140,8 @@ fn subtrees_at_front<'a>(
     tag: u32,
     i: &'a [u8],
 ) -> X509Result<'a, Vec<GeneralSubtree<'a>>>
-    ensures { Gives (λ r. (map subtree_view r.1.items, r.0.now)) result (subtrees_at tag i.now) }
+    ensures read { Gives (λ r. (map subtree_view r.1.items, r.0.now)) result (subtrees_at tag i.now) }
+    ensures counted { IfOk result (λ r. All IsCountedSubtree r.1.items) }
 {
     let mut count = HeaderCount::new();
     let (rest, element) = front_element(i, &mut count)?;
@@ -151,14 +156,16 @@ fn next_subtrees<'a>(
     tag: u32,
     i: &'a [u8],
 ) -> X509Result<'a, Option<Vec<GeneralSubtree<'a>>>>
-    ensures { Gives (λ r. (option_map (λ v. map subtree_view v.items) r.1, r.0.now)) result (Ok (maybe_of (subtrees_at tag) i.now)) }
+    ensures read { Gives (λ r. (option_map (λ v. map subtree_view v.items) r.1, r.0.now)) result (Ok (maybe_of (subtrees_at tag) i.now)) }
+    ensures counted { IfOk result (λ r. IfSome r.1 (λ v. All IsCountedSubtree v.items)) }
 {
     optional(i, subtrees_at_front(alloc, tag, i))
 }
 
 #[tactic(auto, unfolding(crate::specs::Reading::name_constraints_parts_at))]
 fn constraints_parts<'a>(alloc: Global, i: &'a [u8]) -> X509Result<'a, NameConstraints<'a>>
-    ensures { Gives (λ r. (name_constraints_view r.1, r.0.now)) result (name_constraints_parts_at i.now) }
+    ensures read { Gives (λ r. (name_constraints_view r.1, r.0.now)) result (name_constraints_parts_at i.now) }
+    ensures counted { IfOk result (λ r. HasCountedSubtrees r.1) }
 {
     let (i, permitted_subtrees) = next_subtrees(alloc, 0, i)?;
     let (i, excluded_subtrees) = next_subtrees(alloc, 1, i)?;
@@ -175,7 +182,8 @@ fn constraints_of<'a>(
     alloc: Global,
     element: Element<'a>,
 ) -> Result<NameConstraints<'a>, Refusal<X509Error>>
-    ensures { Gives name_constraints_view result (name_constraints_in (piece_of element.entry)) }
+    ensures read { Gives name_constraints_view result (name_constraints_in (piece_of element.entry)) }
+    ensures counted { IfOk result HasCountedSubtrees }
 {
     let content = content_of(16, element.any)?;
     let (_, constraints) = constraints_parts(alloc, content)?;
@@ -207,6 +215,7 @@ impl<'a> FromDer<'a, X509Error> for NameConstraints<'a> {
         ensures found { IfOk result (λ r. grammar.NameConstraints bytes.now (name_constraints_view r.1) r.0.now) }
         ensures only { (v : values.NameConstraints) (rest : List ℕ) → grammar.NameConstraints bytes.now v rest
             → ElseMemory result (λ r. (name_constraints_view r.1 ≡ v) × (r.0.now ≡ rest)) }
+        ensures counted { IfOk result (λ r. HasCountedSubtrees r.1) }
     {
         constraints_at_front(alloc, bytes)
     }
@@ -214,6 +223,7 @@ impl<'a> FromDer<'a, X509Error> for NameConstraints<'a> {
 
 fn constraints_at_front<'a>(alloc: Global, i: &'a [u8]) -> X509Result<'a, NameConstraints<'a>>
     ensures exact { Gives (λ r. (name_constraints_view r.1, r.0.now)) result (name_constraints_at i.now) }
+    ensures counted { IfOk result (λ r. HasCountedSubtrees r.1) }
     ensures missing { TellsMissing i.now result }
     ensures shorter { IfOk result (λ r. length r.0.now < length i.now) }
 {

@@ -12,7 +12,7 @@ ghost use Rattle.x509_ext_names.specs.Names.{IsGeneralName};
 ghost use Rattle.x509_ext_names.specs.Names as grammar;
 ghost use Rattle.x509_ext_names.specs.Reading.{other_name_in, text_name_in, directory_name_in, entry_in, general_name_of, general_name_at};
 ghost use Rattle.x509_ext_names.specs.Values as values;
-ghost use Rattle.x509_ext_names.specs.View.{HasCountedAddress, general_name_view};
+ghost use Rattle.x509_ext_names.specs.View.{IsCountedGeneralName, general_name_view};
 
 use asn1_any::Any;
 use asn1_core::{Err as Refusal, Error, HeaderCount, OutOfMemory, Tag};
@@ -91,7 +91,7 @@ impl<'a> Copies for GeneralName<'a> {
 #[tactic(auto, unfolding(crate::specs::Reading::other_name_in))]
 fn other_name<'a>(content: &'a [u8]) -> Result<GeneralName<'a>, Refusal<X509Error>>
     ensures read { Gives general_name_view result (other_name_in content.now) }
-    ensures counted { IfOk result HasCountedAddress }
+    ensures counted { IfOk result IsCountedGeneralName }
 {
     let (left, id) = first_oid(content)?;
     Ok(GeneralName::OtherName(id, left))
@@ -101,7 +101,7 @@ fn other_name<'a>(content: &'a [u8]) -> Result<GeneralName<'a>, Refusal<X509Erro
 #[tactic(auto, unfolding(crate::specs::Reading::text_name_in))]
 fn text_name<'a>(tag: u32, content: &'a [u8]) -> Result<GeneralName<'a>, Refusal<X509Error>>
     ensures read { Gives general_name_view result (text_name_in tag content.now) }
-    ensures counted { IfOk result HasCountedAddress }
+    ensures counted { IfOk result IsCountedGeneralName }
 {
     let text = text_of(content)?;
     if tag == 1 {
@@ -120,7 +120,7 @@ fn directory_name<'a>(
     content: &'a [u8],
 ) -> Result<GeneralName<'a>, Refusal<X509Error>>
     ensures read { Gives general_name_view result (directory_name_in content.now) }
-    ensures counted { IfOk result HasCountedAddress }
+    ensures counted { IfOk result IsCountedGeneralName }
 {
     let (rest, name) = X509Name::from_der(alloc, content)?;
     if rest.is_empty() {
@@ -133,7 +133,7 @@ fn directory_name<'a>(
 #[tactic(auto, unfolding(crate::specs::Reading::entry_in))]
 fn entry_of<'a>(alloc: Global, any: Any<'a>) -> Result<GeneralName<'a>, Refusal<X509Error>>
     ensures read { Gives general_name_view result (entry_in (any_of any.entry)) }
-    ensures counted { HasOwnLength any.entry → IfOk result HasCountedAddress }
+    ensures counted { HasOwnLength any.entry → IfOk result IsCountedGeneralName }
 {
     let content = any.content;
     match any.tag().0 {
@@ -153,7 +153,7 @@ fn entry_of<'a>(alloc: Global, any: Any<'a>) -> Result<GeneralName<'a>, Refusal<
 // The name that an element of the context class is, or that it is none.
 fn name_of<'a>(alloc: Global, any: Any<'a>) -> Result<GeneralName<'a>, Refusal<X509Error>>
     ensures read { Gives general_name_view result (general_name_of (any_of any.entry)) }
-    ensures counted { HasOwnLength any.entry → IfOk result HasCountedAddress }
+    ensures counted { HasOwnLength any.entry → IfOk result IsCountedGeneralName }
 {
     if !is_of_class(any.class(), 2) {
         return Err(Refusal::Error(X509Error::Der(Error::InvalidTag)));
@@ -192,7 +192,7 @@ impl<'a> FromDer<'a, X509Error> for GeneralName<'a> {
         ensures found { IfOk result (λ r. grammar.GeneralName bytes.now (general_name_view r.1) r.0.now) }
         ensures only { (v : values.GeneralName) (rest : List ℕ) → grammar.GeneralName bytes.now v rest
             → ElseMemory result (λ r. (general_name_view r.1 ≡ v) × (r.0.now ≡ rest)) }
-        ensures counted { IfOk result (λ r. HasCountedAddress r.1) }
+        ensures counted { IfOk result (λ r. IsCountedGeneralName r.1) }
     {
         general_name_at_front(alloc, bytes)
     }
@@ -203,7 +203,7 @@ pub(crate) fn general_name_at_front<'a>(
     i: &'a [u8],
 ) -> X509Result<'a, GeneralName<'a>>
     ensures exact { Gives (λ r. (general_name_view r.1, r.0.now)) result (general_name_at i.now) }
-    ensures counted { IfOk result (λ r. HasCountedAddress r.1) }
+    ensures counted { IfOk result (λ r. IsCountedGeneralName r.1) }
     ensures missing { TellsMissing i.now result }
     ensures shorter { IfOk result (λ r. length r.0.now < length i.now) }
 {
@@ -218,13 +218,15 @@ pub(crate) fn general_name_at_front<'a>(
 impl<'a> Begins<'a> for GeneralName<'a> {
     ghost use Rattle.x509_ext_names.specs.Reading.{general_name_at};
     ghost use Rattle.x509_ext_names.specs.Values as values;
-    ghost use Rattle.x509_ext_names.specs.View.{general_name_view};
+    ghost use Rattle.x509_ext_names.specs.View.{IsCountedGeneralName, general_name_view};
 
     ghost Data = { values.GeneralName };
 
     ghost stands_for = { general_name_view };
 
     ghost reader = { general_name_at };
+
+    ghost IsCounted = { IsCountedGeneralName };
 
     fn begin(
         alloc: Global,

@@ -15,7 +15,7 @@ ghost use Rattle.x509_items.specs.Reading.{maybe_of};
 ghost use Rattle.x509_ext_names.specs.Extensions as grammar;
 ghost use Rattle.x509_ext_names.specs.Reading.{tagged_at, serial_at, authority_key_parts_at, authority_key_in, authority_key_at};
 ghost use Rattle.x509_ext_names.specs.Values as values;
-ghost use Rattle.x509_ext_names.specs.View.{authority_key_view};
+ghost use Rattle.x509_ext_names.specs.View.{IsCountedIdentifier, authority_key_view};
 
 use crate::alternative::next_many_names;
 use crate::general_name::GeneralName;
@@ -96,7 +96,8 @@ fn next_serial<'a>(i: &'a [u8]) -> X509Result<'a, Option<&'a [u8]>>
 
 #[tactic(auto, unfolding(crate::specs::Reading::authority_key_parts_at))]
 fn authority_key_parts<'a>(alloc: Global, i: &'a [u8]) -> X509Result<'a, AuthorityKeyIdentifier<'a>>
-    ensures { Gives (λ r. (authority_key_view r.1, r.0.now)) result (authority_key_parts_at i.now) }
+    ensures read { Gives (λ r. (authority_key_view r.1, r.0.now)) result (authority_key_parts_at i.now) }
+    ensures counted { IfOk result (λ r. IsCountedIdentifier r.1) }
 {
     let (i, key_identifier) = next_key(i)?;
     let (i, authority_cert_issuer) = next_many_names(alloc, 1, i)?;
@@ -115,7 +116,8 @@ fn authority_key_of<'a>(
     alloc: Global,
     element: Element<'a>,
 ) -> Result<AuthorityKeyIdentifier<'a>, Refusal<X509Error>>
-    ensures { Gives authority_key_view result (authority_key_in (piece_of element.entry)) }
+    ensures read { Gives authority_key_view result (authority_key_in (piece_of element.entry)) }
+    ensures counted { IfOk result IsCountedIdentifier }
 {
     let content = content_of(16, element.any)?;
     let (_, value) = authority_key_parts(alloc, content)?;
@@ -147,6 +149,7 @@ impl<'a> FromDer<'a, X509Error> for AuthorityKeyIdentifier<'a> {
         ensures found { IfOk result (λ r. grammar.AuthorityKeyIdentifier bytes.now (authority_key_view r.1) r.0.now) }
         ensures only { (v : values.AuthorityKeyIdentifier) (rest : List ℕ) → grammar.AuthorityKeyIdentifier bytes.now v rest
             → ElseMemory result (λ r. (authority_key_view r.1 ≡ v) × (r.0.now ≡ rest)) }
+        ensures counted { IfOk result (λ r. IsCountedIdentifier r.1) }
     {
         authority_key_at_front(alloc, bytes)
     }
@@ -157,6 +160,7 @@ fn authority_key_at_front<'a>(
     i: &'a [u8],
 ) -> X509Result<'a, AuthorityKeyIdentifier<'a>>
     ensures exact { Gives (λ r. (authority_key_view r.1, r.0.now)) result (authority_key_at i.now) }
+    ensures counted { IfOk result (λ r. IsCountedIdentifier r.1) }
     ensures missing { TellsMissing i.now result }
     ensures shorter { IfOk result (λ r. length r.0.now < length i.now) }
 {

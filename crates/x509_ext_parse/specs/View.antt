@@ -1,5 +1,5 @@
 -- What a parsed value stands for, as the data of the values of extensions.
-use Rattle.std.specs.Prelude.{map}
+use Rattle.std.specs.Prelude.{All, map}
 use Rattle.asn1_unsigned.specs.Numbers.{number_of}
 use Rattle.x509_time.specs.View.{time_view}
 use Rattle.x509_ext_parse.specs.Values as values
@@ -33,3 +33,15 @@ parsed_view (cases.ReasonCode r) = values.reason_code r.0
 parsed_view (cases.InvalidityDate t) = values.invalidity_date (time_view t)
 parsed_view (cases.SCT v) = values.sct (map parts.timestamp_view v.items)
 parsed_view cases.Unparsed = values.unparsed
+
+-- the elements in a value have the lengths of their contents
+abbrev pub HasCountedElements : ParsedExtension → Type 0
+HasCountedElements (cases.AuthorityKeyIdentifier a) = parts.IsCountedIdentifier a
+HasCountedElements (cases.SubjectAlternativeName n) = All parts.IsCountedGeneralName n.general_names.items
+HasCountedElements (cases.IssuerAlternativeName n) = All parts.IsCountedGeneralName n.general_names.items
+HasCountedElements (cases.NameConstraints c) = parts.HasCountedSubtrees c
+HasCountedElements (cases.CRLDistributionPoints p) = All parts.IsCountedPoint p.points.items
+HasCountedElements (cases.AuthorityInfoAccess a) = All parts.HasCountedLocation a.accessdescs.items
+HasCountedElements (cases.SubjectInfoAccess a) = All parts.HasCountedLocation a.accessdescs.items
+HasCountedElements (cases.IssuingDistributionPoint p) = parts.IsCountedIssuingPoint p
+HasCountedElements p = Unit {0}

@@ -5,7 +5,7 @@ ghost use Rattle.x509_ext_flags.specs.Reading.{key_identifier_at, usage_at, nets
 ghost use Rattle.x509_ext_parse.specs.Values as values;
 ghost use Rattle.x509_ext_parse.specs.Cases.{HoldsFaultOf, HoldsNoMemory};
 ghost use Rattle.x509_ext_parse.specs.Reading.{made, or_error};
-ghost use Rattle.x509_ext_parse.specs.View.{parsed_view};
+ghost use Rattle.x509_ext_parse.specs.View.{HasCountedElements, parsed_view};
 ghost use Rattle.x509_ext_parse.specs.declared.kind.Kind.TheVariants as kinds;
 
 use crate::parsed::ParsedExtension;
@@ -21,6 +21,7 @@ pub(crate) fn subject_key_identifier<'a>(
     value: &'a [u8],
 ) -> Result<ParsedExtension<'a>, OutOfMemory>
     ensures read { IfOk result (λ p. parsed_view p ≡ or_error (made values.subject_key_identifier (key_identifier_at value.now))) }
+    ensures counted { IfOk result HasCountedElements }
     ensures memory { IfOk result HoldsNoMemory }
     ensures fault { IfOk result (HoldsFaultOf kinds.SubjectKeyIdentifier value.now) }
 {
@@ -36,6 +37,7 @@ pub(crate) fn key_usage<'a>(
     value: &'a [u8],
 ) -> Result<ParsedExtension<'a>, OutOfMemory>
     ensures read { IfOk result (λ p. parsed_view p ≡ or_error (made values.key_usage (usage_at value.now))) }
+    ensures counted { IfOk result HasCountedElements }
     ensures memory { IfOk result HoldsNoMemory }
     ensures fault { IfOk result (HoldsFaultOf kinds.KeyUsage value.now) }
 {
@@ -51,6 +53,7 @@ pub(crate) fn ns_cert_type<'a>(
     value: &'a [u8],
 ) -> Result<ParsedExtension<'a>, OutOfMemory>
     ensures read { IfOk result (λ p. parsed_view p ≡ or_error (made values.ns_cert_type (netscape_at value.now))) }
+    ensures counted { IfOk result HasCountedElements }
     ensures memory { IfOk result HoldsNoMemory }
     ensures fault { IfOk result (HoldsFaultOf kinds.NSCertType value.now) }
 {
@@ -66,6 +69,7 @@ pub(crate) fn policy_constraints<'a>(
     value: &'a [u8],
 ) -> Result<ParsedExtension<'a>, OutOfMemory>
     ensures read { IfOk result (λ p. parsed_view p ≡ or_error (made values.policy_constraints (policy_constraints_at value.now))) }
+    ensures counted { IfOk result HasCountedElements }
     ensures memory { IfOk result HoldsNoMemory }
     ensures fault { IfOk result (HoldsFaultOf kinds.PolicyConstraints value.now) }
 {
@@ -81,6 +85,7 @@ pub(crate) fn inhibit_any_policy<'a>(
     value: &'a [u8],
 ) -> Result<ParsedExtension<'a>, OutOfMemory>
     ensures read { IfOk result (λ p. parsed_view p ≡ or_error (made values.inhibit_any_policy (inhibit_at value.now))) }
+    ensures counted { IfOk result HasCountedElements }
     ensures memory { IfOk result HoldsNoMemory }
     ensures fault { IfOk result (HoldsFaultOf kinds.InhibitAnyPolicy value.now) }
 {

@@ -5,7 +5,7 @@ ghost use Rattle.x509_ext_names.specs.Reading.{authority_key_at, alternative_at,
 ghost use Rattle.x509_ext_parse.specs.Values as values;
 ghost use Rattle.x509_ext_parse.specs.Cases.{HoldsFaultOf, HoldsNoMemory};
 ghost use Rattle.x509_ext_parse.specs.Reading.{made, or_error};
-ghost use Rattle.x509_ext_parse.specs.View.{parsed_view};
+ghost use Rattle.x509_ext_parse.specs.View.{HasCountedElements, parsed_view};
 ghost use Rattle.x509_ext_parse.specs.declared.kind.Kind.TheVariants as kinds;
 
 use crate::parsed::ParsedExtension;
@@ -24,6 +24,7 @@ pub(crate) fn subject_alternative_name<'a>(
     value: &'a [u8],
 ) -> Result<ParsedExtension<'a>, OutOfMemory>
     ensures read { IfOk result (λ p. parsed_view p ≡ or_error (made values.subject_alternative_name (alternative_at value.now))) }
+    ensures counted { IfOk result HasCountedElements }
     ensures memory { IfOk result HoldsNoMemory }
     ensures fault { IfOk result (HoldsFaultOf kinds.SubjectAlternativeName value.now) }
 {
@@ -39,6 +40,7 @@ pub(crate) fn issuer_alternative_name<'a>(
     value: &'a [u8],
 ) -> Result<ParsedExtension<'a>, OutOfMemory>
     ensures read { IfOk result (λ p. parsed_view p ≡ or_error (made values.issuer_alternative_name (alternative_at value.now))) }
+    ensures counted { IfOk result HasCountedElements }
     ensures memory { IfOk result HoldsNoMemory }
     ensures fault { IfOk result (HoldsFaultOf kinds.IssuerAlternativeName value.now) }
 {
@@ -54,6 +56,7 @@ pub(crate) fn name_constraints<'a>(
     value: &'a [u8],
 ) -> Result<ParsedExtension<'a>, OutOfMemory>
     ensures read { IfOk result (λ p. parsed_view p ≡ or_error (made values.name_constraints (name_constraints_at value.now))) }
+    ensures counted { IfOk result HasCountedElements }
     ensures memory { IfOk result HoldsNoMemory }
     ensures fault { IfOk result (HoldsFaultOf kinds.NameConstraints value.now) }
 {
@@ -69,6 +72,7 @@ pub(crate) fn authority_key_identifier<'a>(
     value: &'a [u8],
 ) -> Result<ParsedExtension<'a>, OutOfMemory>
     ensures read { IfOk result (λ p. parsed_view p ≡ or_error (made values.authority_key_identifier (authority_key_at value.now))) }
+    ensures counted { IfOk result HasCountedElements }
     ensures memory { IfOk result HoldsNoMemory }
     ensures fault { IfOk result (HoldsFaultOf kinds.AuthorityKeyIdentifier value.now) }
 {
@@ -84,6 +88,7 @@ pub(crate) fn authority_info_access<'a>(
     value: &'a [u8],
 ) -> Result<ParsedExtension<'a>, OutOfMemory>
     ensures read { IfOk result (λ p. parsed_view p ≡ or_error (made values.authority_info_access (info_access_at value.now))) }
+    ensures counted { IfOk result HasCountedElements }
     ensures memory { IfOk result HoldsNoMemory }
     ensures fault { IfOk result (HoldsFaultOf kinds.AuthorityInfoAccess value.now) }
 {
@@ -99,6 +104,7 @@ pub(crate) fn subject_info_access<'a>(
     value: &'a [u8],
 ) -> Result<ParsedExtension<'a>, OutOfMemory>
     ensures read { IfOk result (λ p. parsed_view p ≡ or_error (made values.subject_info_access (info_access_at value.now))) }
+    ensures counted { IfOk result HasCountedElements }
     ensures memory { IfOk result HoldsNoMemory }
     ensures fault { IfOk result (HoldsFaultOf kinds.SubjectInfoAccess value.now) }
 {

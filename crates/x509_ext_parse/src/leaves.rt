@@ -5,7 +5,7 @@ ghost use Rattle.x509_ext_basic.specs.Reading.{constraints_at, number_at, reason
 ghost use Rattle.x509_ext_parse.specs.Values as values;
 ghost use Rattle.x509_ext_parse.specs.Cases.{HoldsFaultOf, HoldsNoMemory};
 ghost use Rattle.x509_ext_parse.specs.Reading.{made, or_error};
-ghost use Rattle.x509_ext_parse.specs.View.{parsed_view};
+ghost use Rattle.x509_ext_parse.specs.View.{HasCountedElements, parsed_view};
 ghost use Rattle.x509_ext_parse.specs.declared.kind.Kind.TheVariants as kinds;
 
 use crate::parsed::ParsedExtension;
@@ -24,6 +24,7 @@ pub(crate) fn basic_constraints<'a>(
     value: &'a [u8],
 ) -> Result<ParsedExtension<'a>, OutOfMemory>
     ensures read { IfOk result (λ p. parsed_view p ≡ or_error (made values.basic_constraints (constraints_at value.now))) }
+    ensures counted { IfOk result HasCountedElements }
     ensures memory { IfOk result HoldsNoMemory }
     ensures fault { IfOk result (HoldsFaultOf kinds.BasicConstraints value.now) }
 {
@@ -36,6 +37,7 @@ pub(crate) fn basic_constraints<'a>(
 // RFC 5280, 5.2.3.
 pub(crate) fn crl_number<'a>(value: &'a [u8]) -> Result<ParsedExtension<'a>, OutOfMemory>
     ensures read { IfOk result (λ p. parsed_view p ≡ or_error (made values.crl_number (number_at value.now))) }
+    ensures counted { IfOk result HasCountedElements }
     ensures memory { IfOk result HoldsNoMemory }
     ensures fault { IfOk result (HoldsFaultOf kinds.CRLNumber value.now) }
 {
@@ -48,6 +50,7 @@ pub(crate) fn crl_number<'a>(value: &'a [u8]) -> Result<ParsedExtension<'a>, Out
 // RFC 5280, 5.3.1.
 pub(crate) fn reason_code<'a>(value: &'a [u8]) -> Result<ParsedExtension<'a>, OutOfMemory>
     ensures read { IfOk result (λ p. parsed_view p ≡ or_error (made values.reason_code (reason_at value.now))) }
+    ensures counted { IfOk result HasCountedElements }
     ensures memory { IfOk result HoldsNoMemory }
     ensures fault { IfOk result (HoldsFaultOf kinds.ReasonCode value.now) }
 {
@@ -60,6 +63,7 @@ pub(crate) fn reason_code<'a>(value: &'a [u8]) -> Result<ParsedExtension<'a>, Ou
 // RFC 5280, 5.3.2.
 pub(crate) fn invalidity_date<'a>(value: &'a [u8]) -> Result<ParsedExtension<'a>, OutOfMemory>
     ensures read { IfOk result (λ p. parsed_view p ≡ or_error (made values.invalidity_date (date_at value.now))) }
+    ensures counted { IfOk result HasCountedElements }
     ensures memory { IfOk result HoldsNoMemory }
     ensures fault { IfOk result (HoldsFaultOf kinds.InvalidityDate value.now) }
 {
@@ -75,6 +79,7 @@ pub(crate) fn invalidity_date<'a>(value: &'a [u8]) -> Result<ParsedExtension<'a>
 // Netscape's comment.
 pub(crate) fn ns_cert_comment<'a>(value: &'a [u8]) -> Result<ParsedExtension<'a>, OutOfMemory>
     ensures read { IfOk result (λ p. parsed_view p ≡ or_error (made values.ns_cert_comment (comment_at value.now))) }
+    ensures counted { IfOk result HasCountedElements }
     ensures memory { IfOk result HoldsNoMemory }
     ensures fault { IfOk result (HoldsFaultOf kinds.NsCertComment value.now) }
 {

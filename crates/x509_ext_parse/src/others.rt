@@ -7,7 +7,7 @@ ghost use Rattle.x509_ext_sct.specs.Reading.{list_at};
 ghost use Rattle.x509_ext_parse.specs.Values as values;
 ghost use Rattle.x509_ext_parse.specs.Cases.{HoldsFaultOf, HoldsNoMemory};
 ghost use Rattle.x509_ext_parse.specs.Reading.{made, or_error};
-ghost use Rattle.x509_ext_parse.specs.View.{parsed_view};
+ghost use Rattle.x509_ext_parse.specs.View.{HasCountedElements, parsed_view};
 ghost use Rattle.x509_ext_parse.specs.declared.kind.Kind.TheVariants as kinds;
 
 use crate::parsed::ParsedExtension;
@@ -25,6 +25,7 @@ pub(crate) fn certificate_policies<'a>(
     value: &'a [u8],
 ) -> Result<ParsedExtension<'a>, OutOfMemory>
     ensures read { IfOk result (λ p. parsed_view p ≡ or_error (made values.certificate_policies (policies_at value.now))) }
+    ensures counted { IfOk result HasCountedElements }
     ensures memory { IfOk result HoldsNoMemory }
     ensures fault { IfOk result (HoldsFaultOf kinds.CertificatePolicies value.now) }
 {
@@ -40,6 +41,7 @@ pub(crate) fn policy_mappings<'a>(
     value: &'a [u8],
 ) -> Result<ParsedExtension<'a>, OutOfMemory>
     ensures read { IfOk result (λ p. parsed_view p ≡ or_error (made values.policy_mappings (mappings_at value.now))) }
+    ensures counted { IfOk result HasCountedElements }
     ensures memory { IfOk result HoldsNoMemory }
     ensures fault { IfOk result (HoldsFaultOf kinds.PolicyMappings value.now) }
 {
@@ -55,6 +57,7 @@ pub(crate) fn extended_key_usage<'a>(
     value: &'a [u8],
 ) -> Result<ParsedExtension<'a>, OutOfMemory>
     ensures read { IfOk result (λ p. parsed_view p ≡ or_error (made values.extended_key_usage (purposes_at value.now))) }
+    ensures counted { IfOk result HasCountedElements }
     ensures memory { IfOk result HoldsNoMemory }
     ensures fault { IfOk result (HoldsFaultOf kinds.ExtendedKeyUsage value.now) }
 {
@@ -70,6 +73,7 @@ pub(crate) fn crl_distribution_points<'a>(
     value: &'a [u8],
 ) -> Result<ParsedExtension<'a>, OutOfMemory>
     ensures read { IfOk result (λ p. parsed_view p ≡ or_error (made values.crl_distribution_points (points_at value.now))) }
+    ensures counted { IfOk result HasCountedElements }
     ensures memory { IfOk result HoldsNoMemory }
     ensures fault { IfOk result (HoldsFaultOf kinds.CRLDistributionPoints value.now) }
 {
@@ -85,6 +89,7 @@ pub(crate) fn issuing_distribution_point<'a>(
     value: &'a [u8],
 ) -> Result<ParsedExtension<'a>, OutOfMemory>
     ensures read { IfOk result (λ p. parsed_view p ≡ or_error (made values.issuing_distribution_point (issuing_at value.now))) }
+    ensures counted { IfOk result HasCountedElements }
     ensures memory { IfOk result HoldsNoMemory }
     ensures fault { IfOk result (HoldsFaultOf kinds.IssuingDistributionPoint value.now) }
 {
@@ -97,6 +102,7 @@ pub(crate) fn issuing_distribution_point<'a>(
 // RFC 6962, 3.3.
 pub(crate) fn sct<'a>(alloc: Global, value: &'a [u8]) -> Result<ParsedExtension<'a>, OutOfMemory>
     ensures read { IfOk result (λ p. parsed_view p ≡ or_error (made values.sct (list_at value.now))) }
+    ensures counted { IfOk result HasCountedElements }
     ensures memory { IfOk result HoldsNoMemory }
     ensures fault { IfOk result (HoldsFaultOf kinds.SCT value.now) }
 {

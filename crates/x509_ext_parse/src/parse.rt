@@ -5,7 +5,7 @@ ghost use Rattle.x509_ext_parse.specs.Values.{Parsed};
 ghost use Rattle.x509_ext_parse.specs.Cases.{HoldsFault, HoldsFaultOf, HoldsNoMemory};
 ghost use Rattle.x509_ext_parse.specs.Parsed.{IsParsed};
 ghost use Rattle.x509_ext_parse.specs.Reading.{or_error, value_in, deeply};
-ghost use Rattle.x509_ext_parse.specs.View.{parsed_view};
+ghost use Rattle.x509_ext_parse.specs.View.{HasCountedElements, parsed_view};
 
 use crate::kind::{Kind, kind_of};
 use crate::parsed::ParsedExtension;
@@ -20,6 +20,7 @@ fn parse_kind<'a>(
     value: &'a [u8],
 ) -> Result<ParsedExtension<'a>, OutOfMemory>
     ensures read { IfOk result (λ p. parsed_view p ≡ or_error (value_in kind value.now)) }
+    ensures counted { IfOk result HasCountedElements }
     ensures memory { IfOk result HoldsNoMemory }
     ensures fault { IfOk result (HoldsFaultOf kind value.now) }
 {
@@ -56,6 +57,7 @@ fn read_deeply<'a>(
     value: &'a [u8],
 ) -> Result<ParsedExtension<'a>, OutOfMemory>
     ensures exact { IfOk result (λ p. parsed_view p ≡ deeply oid.now value.now) }
+    ensures counted { IfOk result HasCountedElements }
     ensures memory { IfOk result HoldsNoMemory }
     ensures fault { IfOk result (HoldsFault oid.now value.now) }
 {
@@ -81,6 +83,7 @@ pub fn parse_extension<'a>(
     value: &'a [u8],
 ) -> Result<ParsedExtension<'a>, OutOfMemory>
     ensures exact { IfOk result (λ p. parsed_view p ≡ deeply oid.now value.now) }
+    ensures counted { IfOk result HasCountedElements }
     ensures memory { IfOk result HoldsNoMemory }
     ensures fault { IfOk result (HoldsFault oid.now value.now) }
     ensures found { IfOk result (λ p. IsParsed oid.now value.now (parsed_view p)) }

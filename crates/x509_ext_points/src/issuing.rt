@@ -8,7 +8,7 @@ ghost use Rattle.x509_core.specs.Fronts.{TakesNoMemory};
 ghost use Rattle.x509_ext_points.specs.Points as grammar;
 ghost use Rattle.x509_ext_points.specs.Reading.{truth_in, truth_at, flag_at, issuing_parts_at, issuing_in, issuing_at};
 ghost use Rattle.x509_ext_points.specs.Values as values;
-ghost use Rattle.x509_ext_points.specs.View.{issuing_point_view};
+ghost use Rattle.x509_ext_points.specs.View.{IsCountedIssuingPoint, issuing_point_view};
 
 use crate::name::{DistributionPointName, copy_name, copy_reasons, next_name, next_reasons};
 use asn1_any::{Any, Element};
@@ -90,7 +90,8 @@ fn next_flag<'a>(tag: u32, i: &'a [u8]) -> (&'a [u8], bool)
 
 #[tactic(auto, unfolding(crate::specs::Reading::issuing_parts_at))]
 fn issuing_parts<'a>(alloc: Global, i: &'a [u8]) -> X509Result<'a, IssuingDistributionPoint<'a>>
-    ensures { Gives (λ r. (issuing_point_view r.1, r.0.now)) result (issuing_parts_at i.now) }
+    ensures read { Gives (λ r. (issuing_point_view r.1, r.0.now)) result (issuing_parts_at i.now) }
+    ensures counted { IfOk result (λ r. IsCountedIssuingPoint r.1) }
 {
     let (i, distribution_point) = next_name(alloc, i)?;
     let (i, only_contains_user_certs) = next_flag(1, i);
@@ -115,7 +116,8 @@ fn issuing_of<'a>(
     alloc: Global,
     element: Element<'a>,
 ) -> Result<IssuingDistributionPoint<'a>, Refusal<X509Error>>
-    ensures { Gives issuing_point_view result (issuing_in (piece_of element.entry)) }
+    ensures read { Gives issuing_point_view result (issuing_in (piece_of element.entry)) }
+    ensures counted { IfOk result IsCountedIssuingPoint }
 {
     let content = content_of(16, element.any)?;
     let (_, value) = issuing_parts(alloc, content)?;
@@ -123,7 +125,8 @@ fn issuing_of<'a>(
 }
 
 fn issuing_at_front<'a>(alloc: Global, i: &'a [u8]) -> X509Result<'a, IssuingDistributionPoint<'a>>
-    ensures { Gives (λ r. (issuing_point_view r.1, r.0.now)) result (issuing_at i.now) }
+    ensures read { Gives (λ r. (issuing_point_view r.1, r.0.now)) result (issuing_at i.now) }
+    ensures counted { IfOk result (λ r. IsCountedIssuingPoint r.1) }
 {
     let mut count = HeaderCount::new();
     let (rest, element) = front_element(i, &mut count)?;
@@ -146,6 +149,7 @@ pub fn issuing_distribution_point<'a>(
     ensures found { IfOk result (λ r. grammar.IssuingDistributionPoint i.now (issuing_point_view r.1) r.0.now) }
     ensures only { (v : values.IssuingDistributionPoint) (rest : List ℕ) → grammar.IssuingDistributionPoint i.now v rest
         → ElseMemory result (λ r. (issuing_point_view r.1 ≡ v) × (r.0.now ≡ rest)) }
+    ensures counted { IfOk result (λ r. IsCountedIssuingPoint r.1) }
 {
     issuing_at_front(alloc, i)
 }

@@ -1,11 +1,11 @@
 //! `DistributionPointName` (RFC 5280, 4.2.1.13), and a reader of reasons.
 
-ghost use Rattle.std.specs.Prelude.{◌≡◌, ℕ, List, IfOk, map, option_map, Ok};
+ghost use Rattle.std.specs.Prelude.{◌≡◌, ℕ, List, IfOk, IfSome, map, option_map, Ok};
 ghost use Rattle.x509_core.specs.Answers.{Gives};
 ghost use Rattle.x509_ext_flags.specs.View.{reasons_view};
 ghost use Rattle.x509_items.specs.Reading.{maybe_of};
 ghost use Rattle.x509_ext_points.specs.Reading.{full_name_at, relative_at, point_name_at, boxed_name_at, reasons_at};
-ghost use Rattle.x509_ext_points.specs.View.{point_name_view};
+ghost use Rattle.x509_ext_points.specs.View.{IsCountedPointName, point_name_view};
 
 use asn1_core::{Err as Refusal, Error, HeaderCount, OutOfMemory};
 use asn1_traits::FromDer;
@@ -71,14 +71,16 @@ pub(crate) fn copy_reasons(reasons: &Option<ReasonFlags>) -> Option<ReasonFlags>
 }
 
 fn full_name<'a>(alloc: Global, i: &'a [u8]) -> X509Result<'a, DistributionPointName<'a>>
-    ensures { Gives (λ r. (point_name_view r.1, r.0.now)) result (full_name_at i.now) }
+    ensures read { Gives (λ r. (point_name_view r.1, r.0.now)) result (full_name_at i.now) }
+    ensures counted { IfOk result (λ r. IsCountedPointName r.1) }
 {
     let (rest, names) = general_names(alloc, i)?;
     Ok((rest, DistributionPointName::FullName(names)))
 }
 
 fn relative_name<'a>(alloc: Global, i: &'a [u8]) -> X509Result<'a, DistributionPointName<'a>>
-    ensures { Gives (λ r. (point_name_view r.1, r.0.now)) result (relative_at i.now) }
+    ensures read { Gives (λ r. (point_name_view r.1, r.0.now)) result (relative_at i.now) }
+    ensures counted { IfOk result (λ r. IsCountedPointName r.1) }
 {
     let (rest, set) = RelativeDistinguishedName::from_der(alloc, i)?;
     Ok((rest, DistributionPointName::NameRelativeToCRLIssuer(set)))
@@ -87,7 +89,8 @@ fn relative_name<'a>(alloc: Global, i: &'a [u8]) -> X509Result<'a, DistributionP
 // A name after the header of its kind, whose length isn't used.
 #[tactic(auto, unfolding(crate::specs::Reading::point_name_at))]
 fn point_name<'a>(alloc: Global, i: &'a [u8]) -> X509Result<'a, DistributionPointName<'a>>
-    ensures { Gives (λ r. (point_name_view r.1, r.0.now)) result (point_name_at i.now) }
+    ensures read { Gives (λ r. (point_name_view r.1, r.0.now)) result (point_name_at i.now) }
+    ensures counted { IfOk result (λ r. IsCountedPointName r.1) }
 {
     let mut count = HeaderCount::new();
     let (after, header) = front_header(i, &mut count)?;
@@ -101,7 +104,8 @@ fn point_name<'a>(alloc: Global, i: &'a [u8]) -> X509Result<'a, DistributionPoin
 }
 
 fn name_at_front<'a>(alloc: Global, i: &'a [u8]) -> X509Result<'a, DistributionPointName<'a>>
-    ensures { Gives (λ r. (point_name_view r.1, r.0.now)) result (boxed_name_at i.now) }
+    ensures read { Gives (λ r. (point_name_view r.1, r.0.now)) result (boxed_name_at i.now) }
+    ensures counted { IfOk result (λ r. IsCountedPointName r.1) }
 {
     let mut count = HeaderCount::new();
     let (rest, element) = front_element(i, &mut count)?;
@@ -115,7 +119,8 @@ pub(crate) fn next_name<'a>(
     alloc: Global,
     i: &'a [u8],
 ) -> X509Result<'a, Option<DistributionPointName<'a>>>
-    ensures { Gives (λ r. (option_map point_name_view r.1, r.0.now)) result (Ok (maybe_of boxed_name_at i.now)) }
+    ensures read { Gives (λ r. (option_map point_name_view r.1, r.0.now)) result (Ok (maybe_of boxed_name_at i.now)) }
+    ensures counted { IfOk result (λ r. IfSome r.1 IsCountedPointName) }
 {
     optional(i, name_at_front(alloc, i))
 }

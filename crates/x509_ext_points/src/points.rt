@@ -1,6 +1,6 @@
 //! `CRLDistributionPoints` (RFC 5280, 4.2.1.13).
 
-ghost use Rattle.std.specs.Prelude.{◌≡◌, ◌<◌, ℕ, List, length, IfOk, IfErr};
+ghost use Rattle.std.specs.Prelude.{◌≡◌, ◌<◌, ℕ, List, length, All, IfOk, IfErr};
 ghost use Rattle.asn1_any.specs.CutViews.{piece_of};
 ghost use Rattle.asn1_any.specs.Views.{any_of};
 ghost use Rattle.asn1_traits.specs.Elements.{EndsWithinElement};
@@ -13,7 +13,7 @@ ghost use Rattle.x509_core.specs.Grammar.{Holds, ToEnd};
 ghost use Rattle.x509_ext_points.specs.Points as grammar;
 ghost use Rattle.x509_ext_points.specs.Reading.{point_parts_at, point_in, point_at, points_in, points_at};
 ghost use Rattle.x509_ext_points.specs.Values as values;
-ghost use Rattle.x509_ext_points.specs.View.{point_view, points_view};
+ghost use Rattle.x509_ext_points.specs.View.{IsCountedPoint, point_view, points_view};
 
 use crate::name::{DistributionPointName, copy_name, copy_reasons, next_name, next_reasons};
 use asn1_any::Element;
@@ -91,7 +91,8 @@ impl<'a> CRLDistributionPoints<'a> {
 
 #[tactic(auto, unfolding(crate::specs::Reading::point_parts_at))]
 fn point_parts<'a>(alloc: Global, i: &'a [u8]) -> X509Result<'a, CRLDistributionPoint<'a>>
-    ensures { Gives (λ r. (point_view r.1, r.0.now)) result (point_parts_at i.now) }
+    ensures read { Gives (λ r. (point_view r.1, r.0.now)) result (point_parts_at i.now) }
+    ensures counted { IfOk result (λ r. IsCountedPoint r.1) }
 {
     let (i, distribution_point) = next_name(alloc, i)?;
     let (i, reasons) = next_reasons(1, i)?;
@@ -108,6 +109,7 @@ fn point_parts<'a>(alloc: Global, i: &'a [u8]) -> X509Result<'a, CRLDistribution
 
 fn point_at_front<'a>(alloc: Global, i: &'a [u8]) -> X509Result<'a, CRLDistributionPoint<'a>>
     ensures exact { Gives (λ r. (point_view r.1, r.0.now)) result (point_at i.now) }
+    ensures counted { IfOk result (λ r. IsCountedPoint r.1) }
     ensures shorter { IfOk result (λ r. length r.0.now < length i.now) }
 {
     let mut count = HeaderCount::new();
@@ -120,13 +122,15 @@ fn point_at_front<'a>(alloc: Global, i: &'a [u8]) -> X509Result<'a, CRLDistribut
 impl<'a> Begins<'a> for CRLDistributionPoint<'a> {
     ghost use Rattle.x509_ext_points.specs.Reading.{point_at};
     ghost use Rattle.x509_ext_points.specs.Values as values;
-    ghost use Rattle.x509_ext_points.specs.View.{point_view};
+    ghost use Rattle.x509_ext_points.specs.View.{IsCountedPoint, point_view};
 
     ghost Data = { values.DistributionPoint };
 
     ghost stands_for = { point_view };
 
     ghost reader = { point_at };
+
+    ghost IsCounted = { IsCountedPoint };
 
     fn begin(
         alloc: Global,
@@ -140,7 +144,8 @@ fn all_points<'a>(
     alloc: Global,
     element: Element<'a>,
 ) -> Result<Vec<CRLDistributionPoint<'a>>, Refusal<X509Error>>
-    ensures { Gives (λ v. map point_view v.items) result (points_in (piece_of element.entry)) }
+    ensures read { Gives (λ v. map point_view v.items) result (points_in (piece_of element.entry)) }
+    ensures counted { IfOk result (λ v. All IsCountedPoint v.items) }
 {
     let content = content_of(16, element.any)?;
     told(all(alloc, content))
@@ -150,7 +155,8 @@ fn points_of<'a>(
     alloc: Global,
     element: Element<'a>,
 ) -> Result<CRLDistributionPoints<'a>, Refusal<X509Error>>
-    ensures { Gives points_view result (points_in (piece_of element.entry)) }
+    ensures read { Gives points_view result (points_in (piece_of element.entry)) }
+    ensures counted { IfOk result (λ v. All IsCountedPoint v.points.items) }
 {
     let points = all_points(alloc, element)?;
     Ok(CRLDistributionPoints { points })
@@ -181,6 +187,7 @@ impl<'a> FromDer<'a, X509Error> for CRLDistributionPoints<'a> {
         ensures found { IfOk result (λ r. grammar.CRLDistributionPoints bytes.now (points_view r.1) r.0.now) }
         ensures only { (v : List values.DistributionPoint) (rest : List ℕ) → grammar.CRLDistributionPoints bytes.now v rest
             → ElseMemory result (λ r. (points_view r.1 ≡ v) × (r.0.now ≡ rest)) }
+        ensures counted { IfOk result (λ r. All IsCountedPoint r.1.points.items) }
     {
         points_at_front(alloc, bytes)
     }
@@ -188,6 +195,7 @@ impl<'a> FromDer<'a, X509Error> for CRLDistributionPoints<'a> {
 
 fn points_at_front<'a>(alloc: Global, i: &'a [u8]) -> X509Result<'a, CRLDistributionPoints<'a>>
     ensures exact { Gives (λ r. (points_view r.1, r.0.now)) result (points_at i.now) }
+    ensures counted { IfOk result (λ r. All IsCountedPoint r.1.points.items) }
     ensures missing { TellsMissing i.now result }
     ensures shorter { IfOk result (λ r. length r.0.now < length i.now) }
 {

@@ -142,6 +142,8 @@ impl<'a> Begins<'a> for PolicyMapping<'a> {
 
     ghost reader = { mapping_at };
 
+    ghost IsCounted = { λ _. Unit {0} };
+
     fn begin(
         _alloc: Global,
         i: &'a [u8],

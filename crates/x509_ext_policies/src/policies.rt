@@ -137,6 +137,8 @@ impl<'a> Begins<'a> for PolicyQualifierInfo<'a> {
 
     ghost reader = { qualifier_at };
 
+    ghost IsCounted = { λ _. Unit {0} };
+
     fn begin(
         _alloc: Global,
         i: &'a [u8],
@@ -213,6 +215,8 @@ impl<'a> Begins<'a> for PolicyInformation<'a> {
     ghost stands_for = { policy_view };
 
     ghost reader = { policy_at };
+
+    ghost IsCounted = { λ _. Unit {0} };
 
     fn begin(
         alloc: Global,

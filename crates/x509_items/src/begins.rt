@@ -1,8 +1,8 @@
 //! Readers of repeated values.
 
-ghost use Rattle.std.specs.Prelude.{◌≡◌, map, IfOk};
+ghost use Rattle.std.specs.Prelude.{◌≡◌, map, All, IfOk};
 ghost use Rattle.x509_core.specs.Reading.{many_of};
-ghost use Rattle.x509_items.specs.Answers.{Takes};
+ghost use Rattle.x509_items.specs.Answers.{Takes, IfTaken};
 ghost use Rattle.x509_items.specs.Reading.{some_of, all_of};
 
 use asn1_core::OutOfMemory;
@@ -23,9 +23,13 @@ pub trait Begins<'a>: Sized {
     /// The function of the reader.
     ghost reader: { Reader Data };
 
+    /// The elements in a value have the lengths of their contents.
+    ghost IsCounted: { Self → Type 0 };
+
     /// Reads one value from the front. Returns `(rest, value)`, or `None`.
     fn begin(alloc: Global, i: &'a [u8]) -> Result<Option<(&'a [u8], Self)>, OutOfMemory>
         ensures read { Takes (λ r. (stands_for r.1, r.0.now)) result (reader i.now) }
+        ensures counted { IfTaken result (λ r. IsCounted r.1) }
         ensures shorter { IfTaken result (λ r. length r.0.now < length i.now) };
 }
 
@@ -38,7 +42,8 @@ pub fn each<'a, T: Begins<'a> + Drop>(
     alloc: Global,
     i: &'a [u8],
 ) -> Result<(&'a [u8], Vec<T>), OutOfMemory>
-    ensures { IfOk result (λ r. many_of T.reader i.now ≡ (map T.stands_for r.1.items, r.0.now)) }
+    ensures read { IfOk result (λ r. many_of T.reader i.now ≡ (map T.stands_for r.1.items, r.0.now)) }
+    ensures counted { IfOk result (λ r. All T.IsCounted r.1.items) }
 {
     let mut values = Vec::new(alloc);
     let mut left = i;
@@ -58,7 +63,8 @@ pub fn some<'a, T: Begins<'a> + Drop>(
     alloc: Global,
     i: &'a [u8],
 ) -> Result<Option<(&'a [u8], Vec<T>)>, OutOfMemory>
-    ensures { Takes (λ r. (map T.stands_for r.1.items, r.0.now)) result (some_of T.reader i.now) }
+    ensures read { Takes (λ r. (map T.stands_for r.1.items, r.0.now)) result (some_of T.reader i.now) }
+    ensures counted { IfTaken result (λ r. All T.IsCounted r.1.items) }
 {
     let (rest, values) = each::<T>(alloc, i)?;
     if values.is_empty() {
@@ -76,7 +82,8 @@ pub fn all<'a, T: Begins<'a> + Drop>(
     alloc: Global,
     i: &'a [u8],
 ) -> Result<Option<Vec<T>>, OutOfMemory>
-    ensures { Takes (λ v. map T.stands_for v.items) result (all_of T.reader i.now) }
+    ensures read { Takes (λ v. map T.stands_for v.items) result (all_of T.reader i.now) }
+    ensures counted { IfTaken result (λ v. All T.IsCounted v.items) }
 {
     let (rest, values) = each::<T>(alloc, i)?;
     if rest.is_empty() {

@@ -35,6 +35,8 @@ impl<'a> Begins<'a> for Oid<'a> {
 
     ghost reader = { oid_at };
 
+    ghost IsCounted = { λ _. Unit {0} };
+
     fn begin(_alloc: Global, i: &'a [u8]) -> Result<Option<(&'a [u8], Oid<'a>)>, OutOfMemory> {
         taken(first_oid(i))
     }

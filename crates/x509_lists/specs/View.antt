@@ -6,7 +6,7 @@ use Rattle.asn1_core.specs.declared.outcome.Err.{Err as Refusal}
 use Rattle.asn1_unsigned.specs.Numbers.{number_of}
 use Rattle.x509_names.specs.View.{HasCountedParameters, IsCountedName, algorithm_view, name_view, bits_view}
 use Rattle.x509_time.specs.View.{time_view}
-use Rattle.x509_ext.specs.View.{extension_view, extension_error, WantsNoMemory}
+use Rattle.x509_ext.specs.View.{extension_view, extension_error, IsCountedExtension, WantsNoMemory}
 use Rattle.x509_lists.specs.Fields.{Entry, TbsList, RevocationList}
 use Rattle.x509_lists.specs.declared.entry.RevokedCertificate.{RevokedCertificate}
 use Rattle.x509_lists.specs.declared.tbs.TbsCertList.{TbsCertList}
@@ -26,6 +26,10 @@ HasSerial e = number_of e.user_certificate ≡ number_from_digits 256 e.raw_seri
 -- if a value of its extensions is none of its type, the error isn't `OutOfMemory`
 abbrev pub EntryWantsNoMemory : RevokedCertificate → Type 0
 EntryWantsNoMemory e = All WantsNoMemory e.extensions.items
+
+-- elements in the parsed values of its extensions have the lengths of their contents
+abbrev pub IsCountedEntry : RevokedCertificate → Type 0
+IsCountedEntry e = All IsCountedExtension e.extensions.items
 
 abbrev pub tbs_view : TbsCertList → TbsList
 tbs_view t = record {
@@ -48,9 +52,10 @@ abbrev pub EntriesWantNoMemory : TbsCertList → Type 0
 EntriesWantNoMemory t = All EntryWantsNoMemory t.revoked_certificates.items
 
 -- headers of elements that are handed out unparsed have the lengths of their contents: the
--- algorithm's parameters and the values in the issuer's name
+-- algorithm's parameters, the values in the issuer's name, and those in the parsed values of
+-- extensions, of entries too
 abbrev pub IsCountedTbs : TbsCertList → Type 0
-IsCountedTbs t = HasCountedParameters t.signature × IsCountedName t.issuer
+IsCountedTbs t = HasCountedParameters t.signature × IsCountedName t.issuer × All IsCountedEntry t.revoked_certificates.items × All IsCountedExtension t.extensions.items
 
 abbrev pub list_view : CertificateRevocationList → RevocationList
 list_view l = record { tbs = tbs_view l.tbs_cert_list; algorithm = algorithm_view l.signature_algorithm; signature_value = bits_view l.signature_value; raw = l.raw.now }

@@ -7,7 +7,7 @@ ghost use Rattle.x509_core.specs.Answers.{Gives, ManyGive};
 ghost use Rattle.x509_core.specs.Reading.{many_of};
 ghost use Rattle.x509_ext.specs.Fields.{reading_of};
 ghost use Rattle.x509_lists.specs.Reading.{entry_at, entries_in, entries_at};
-ghost use Rattle.x509_lists.specs.View.{entry_view, entry_errors, HasSerial, EntryWantsNoMemory};
+ghost use Rattle.x509_lists.specs.View.{entry_view, entry_errors, HasSerial, IsCountedEntry, EntryWantsNoMemory};
 
 use crate::entry::{RevokedCertificate, entry_of};
 use asn1_any::Element;
@@ -31,6 +31,7 @@ fn each_entry<'a>(
     requires { attempts count.old + 3 * length parts.old.octets < 2 ^ 128 }
     ensures read { ManyGive (λ v. map entry_view v.items) result (many_of (entry_at (reading_of deep)) parts.old.octets) parts.new.octets }
     ensures serials { IfOk result (λ v. All HasSerial v.items) }
+    ensures counted { IfOk result (λ v. All IsCountedEntry v.items) }
     ensures memory { IfOk result (λ v. All EntryWantsNoMemory v.items) }
     ensures grows { attempts count.old ≤ attempts count.new }
     ensures most { attempts count.new ≤ attempts count.old + 3 * length parts.old.octets }
@@ -64,6 +65,7 @@ fn entries_of<'a>(
     requires { attempts count.old + 4 * length element.any.content.now < 2 ^ 128 }
     ensures read { Gives (λ v. map entry_view v.items) result (entries_in (reading_of deep) (any_of element.entry.any)) }
     ensures serials { IfOk result (λ v. All HasSerial v.items) }
+    ensures counted { IfOk result (λ v. All IsCountedEntry v.items) }
     ensures memory { IfOk result (λ v. All EntryWantsNoMemory v.items) }
     ensures grows { attempts count.old ≤ attempts count.new }
     ensures most { attempts count.new ≤ attempts count.old + 4 * length element.entry.any.content.now }
@@ -94,6 +96,7 @@ pub(crate) fn next_entries<'a>(
     requires { attempts count.old + 4 * length parts.old.octets < 2 ^ 128 }
     ensures read { Gives (λ v. (map entry_view v.items, parts.new.octets)) result (entries_at (reading_of deep) parts.old.octets) }
     ensures serials { IfOk result (λ v. All HasSerial v.items) }
+    ensures counted { IfOk result (λ v. All IsCountedEntry v.items) }
     ensures memory { IfOk result (λ v. All EntryWantsNoMemory v.items) }
     ensures grows { attempts count.old ≤ attempts count.new }
     ensures ends { length parts.new.octets ≤ length parts.old.octets }

@@ -8,11 +8,11 @@ ghost use Rattle.x509_core.specs.Answers.{Gives, ManyGive};
 ghost use Rattle.x509_ext.specs.Values.{serial_text};
 ghost use Rattle.x509_ext.specs.Fields.{reading_of};
 ghost use Rattle.x509_ext.specs.Lookup.{all_of, first_of};
-ghost use Rattle.x509_ext.specs.View.{extension_view, WantsNoMemory};
+ghost use Rattle.x509_ext.specs.View.{extension_view, IsCountedExtension, WantsNoMemory};
 ghost use Rattle.x509_lists.specs.Lists.{or_none};
 ghost use Rattle.x509_lists.specs.Lookup.{reason_code_of, invalidity_date_of};
 ghost use Rattle.x509_lists.specs.Reading.{entry_in, entry_extensions_at};
-ghost use Rattle.x509_lists.specs.View.{entry_view, entry_errors, HasSerial, EntryWantsNoMemory};
+ghost use Rattle.x509_lists.specs.View.{entry_view, entry_errors, HasSerial, IsCountedEntry, EntryWantsNoMemory};
 
 use asn1_any::Element;
 use asn1_core::{Err as Refusal, HeaderCount, OutOfMemory};
@@ -166,6 +166,7 @@ fn entry_extensions<'a>(
 ) -> Result<Vec<X509Extension<'a>>, Refusal<X509Error>>
     requires { attempts count.old + 2 * length parts.old.octets < 2 ^ 128 }
     ensures read { ManyGive (λ v. map extension_view v.items) result (entry_extensions_at (reading_of deep) parts.old.octets) parts.new.octets }
+    ensures counted { IfOk result (λ v. All IsCountedExtension v.items) }
     ensures memory { IfOk result (λ v. All WantsNoMemory v.items) }
     ensures grows { attempts count.old ≤ attempts count.new }
     ensures most { attempts count.new ≤ attempts count.old + 2 * length parts.old.octets }
@@ -196,6 +197,7 @@ pub(crate) fn entry_of<'a>(
     requires { attempts count.old + 3 * length element.any.content.now < 2 ^ 128 }
     ensures read { Gives entry_view result (entry_in (reading_of deep) (any_of element.entry.any)) }
     ensures serial { IfOk result HasSerial }
+    ensures counted { IfOk result IsCountedEntry }
     ensures memory { IfOk result EntryWantsNoMemory }
     ensures grows { attempts count.old ≤ attempts count.new }
     ensures most { attempts count.new ≤ attempts count.old + 3 * length element.entry.any.content.now }

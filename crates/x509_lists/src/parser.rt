@@ -14,7 +14,7 @@ ghost use Rattle.x509_ext.specs.View.{WantsNoMemory};
 ghost use Rattle.x509_lists.specs.Lists as grammar;
 ghost use Rattle.x509_lists.specs.Fields.{Entry, TbsList, RevocationList};
 ghost use Rattle.x509_lists.specs.Reading.{entry_at, tbs_at, list_at};
-ghost use Rattle.x509_lists.specs.View.{entry_view, tbs_view, list_view, HasSerial, HaveSerials, EntryWantsNoMemory, EntriesWantNoMemory, IsCountedTbs, IsCountedList};
+ghost use Rattle.x509_lists.specs.View.{entry_view, tbs_view, list_view, HasSerial, HaveSerials, IsCountedEntry, EntryWantsNoMemory, EntriesWantNoMemory, IsCountedTbs, IsCountedList};
 
 use crate::entry::{RevokedCertificate, entry_of};
 use crate::list::{CertificateRevocationList, list_of};
@@ -217,6 +217,7 @@ impl<'a> FromDer<'a, X509Error> for RevokedCertificate<'a> {
         ensures exact { Gives (λ r. (entry_view r.1, r.0.now)) result (entry_at deeply bytes.now) }
         ensures missing { TellsMissing bytes.now result }
         ensures serial { IfOk result (λ r. HasSerial r.1) }
+        ensures counted { IfOk result (λ r. IsCountedEntry r.1) }
         ensures memory { IfOk result (λ r. EntryWantsNoMemory r.1) }
         ensures found { IfOk result (λ r. grammar.RevokedCertificate IsParsed bytes.now (entry_view r.1) r.0.now) }
         ensures only { (v : Entry) (rest : List ℕ) → grammar.RevokedCertificate IsParsed bytes.now v rest
@@ -281,6 +282,7 @@ fn entry_at_front<'a>(
     ensures exact { Gives (λ r. (entry_view r.1, r.0.now)) result (entry_at (reading_of deep) i.now) }
     ensures missing { TellsMissing i.now result }
     ensures serial { IfOk result (λ r. HasSerial r.1) }
+    ensures counted { IfOk result (λ r. IsCountedEntry r.1) }
     ensures memory { IfOk result (λ r. EntryWantsNoMemory r.1) }
 {
     let mut count = HeaderCount::new();

@@ -8,10 +8,10 @@ ghost use Rattle.x509_core.specs.Answers.{Gives};
 ghost use Rattle.x509_names.specs.View.{HasCountedParameters, IsCountedName};
 ghost use Rattle.x509_ext.specs.Fields.{reading_of};
 ghost use Rattle.x509_ext.specs.Lookup.{all_of, first_of};
-ghost use Rattle.x509_ext.specs.View.{WantsNoMemory, extension_error};
+ghost use Rattle.x509_ext.specs.View.{IsCountedExtension, WantsNoMemory, extension_error};
 ghost use Rattle.x509_lists.specs.Reading.{version_at, tbs_in, tbs_at};
 ghost use Rattle.x509_lists.specs.Steps.{signer_at, dates_at, revoked_at, signed_at, signer_view, dates_view, revoked_view};
-ghost use Rattle.x509_lists.specs.View.{tbs_view, entry_errors, HasSerial, EntryWantsNoMemory, HaveSerials, EntriesWantNoMemory, IsCountedTbs};
+ghost use Rattle.x509_lists.specs.View.{tbs_view, entry_errors, HasSerial, IsCountedEntry, EntryWantsNoMemory, HaveSerials, EntriesWantNoMemory, IsCountedTbs};
 
 use crate::entries::{copy_entries, next_entries};
 use crate::entry::RevokedCertificate;
@@ -202,6 +202,7 @@ fn revoked_of<'a>(
     requires { attempts count.old + 4 * length parts.old.octets < 2 ^ 128 }
     ensures read { Gives revoked_view result (revoked_at (reading_of deep) parts.old.octets) }
     ensures serials { IfOk result (λ r. All HasSerial r.entries.items) }
+    ensures counted { IfOk result (λ r. All IsCountedEntry r.entries.items × All IsCountedExtension r.extensions.items) }
     ensures memory { IfOk result (λ r. All WantsNoMemory r.extensions.items) }
     ensures entries { IfOk result (λ r. All EntryWantsNoMemory r.entries.items) }
     ensures grows { attempts count.old ≤ attempts count.new }

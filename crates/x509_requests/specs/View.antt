@@ -3,7 +3,7 @@ use Rattle.std.specs.Prelude.{List, [], Option, All, map, string_bytes}
 use Rattle.asn1_core.specs.declared.error.Error.{Error}
 use Rattle.asn1_core.specs.declared.outcome.Err.{Err as Refusal}
 use Rattle.x509_names.specs.View.{HasCountedParameters, IsCountedName, IsCountedKey, algorithm_view, name_view, key_view, bits_view}
-use Rattle.x509_ext.specs.View.{extension_view, extension_error, WantsNoMemory}
+use Rattle.x509_ext.specs.View.{extension_view, extension_error, IsCountedExtension, WantsNoMemory}
 use Rattle.x509_requests.specs.Fields.{AttributeValues, extension_request, challenge_password, unsupported_attribute, RequestAttribute, RequestInfo, Request}
 use Rattle.x509_requests.specs.declared.attribute.ParsedCriAttribute.{ParsedCriAttribute}
 use Rattle.x509_requests.specs.declared.attribute.ParsedCriAttribute.TheVariants as cases
@@ -30,6 +30,15 @@ ValuesWantNoMemory a = Unit {0}
 abbrev pub AttributeWantsNoMemory : X509CriAttribute → Type 0
 AttributeWantsNoMemory a = ValuesWantNoMemory a.parsed_attribute
 
+-- elements in the parsed values of the extensions that are asked for have the lengths of their
+-- contents
+abbrev pub HasCountedRequest : ParsedCriAttribute → Type 0
+HasCountedRequest (cases.ExtensionRequest r) = All IsCountedExtension r.extensions.items
+HasCountedRequest a = Unit {0}
+
+abbrev pub IsCountedAttribute : X509CriAttribute → Type 0
+IsCountedAttribute a = HasCountedRequest a.parsed_attribute
+
 abbrev pub attribute_view : X509CriAttribute → RequestAttribute
 attribute_view a = record { identifier = a.oid; raw = a.value.now; values = values_view a.parsed_attribute }
 
@@ -41,9 +50,10 @@ abbrev pub AttributesWantNoMemory : X509CertificationRequestInfo → Type 0
 AttributesWantNoMemory r = All AttributeWantsNoMemory r.attributes.items
 
 -- headers of elements that are handed out unparsed have the lengths of their contents: the values
--- in the subject's name and the parameters of the key's algorithm
+-- in the subject's name, the parameters of the key's algorithm, and those in the parsed values of
+-- extensions that are asked for
 abbrev pub IsCountedInfo : X509CertificationRequestInfo → Type 0
-IsCountedInfo r = IsCountedName r.subject × IsCountedKey r.subject_pki
+IsCountedInfo r = IsCountedName r.subject × IsCountedKey r.subject_pki × All IsCountedAttribute r.attributes.items
 
 abbrev pub request_view : X509CertificationRequest → Request
 request_view r = record { info = info_view r.certification_request_info; algorithm = algorithm_view r.signature_algorithm; signature_value = bits_view r.signature_value; raw = r.raw.now }

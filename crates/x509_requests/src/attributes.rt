@@ -6,7 +6,7 @@ ghost use Rattle.asn1_any.specs.Views.{any_of};
 ghost use Rattle.x509_core.specs.Answers.{Gives};
 ghost use Rattle.x509_ext.specs.Values.{deeply};
 ghost use Rattle.x509_requests.specs.Reading.{attribute_parts_in, attribute_in, attribute_at, all_attributes_at, attributes_at};
-ghost use Rattle.x509_requests.specs.View.{attribute_view, AttributeWantsNoMemory};
+ghost use Rattle.x509_requests.specs.View.{attribute_view, IsCountedAttribute, AttributeWantsNoMemory};
 
 use crate::attribute::X509CriAttribute;
 use crate::values::values_of;
@@ -22,6 +22,7 @@ fn parts_within<'a>(
     content: &'a [u8],
 ) -> Result<X509CriAttribute<'a>, Refusal<X509Error>>
     ensures read { Gives attribute_view result (attribute_parts_in deeply content.now) }
+    ensures counted { IfOk result IsCountedAttribute }
     ensures memory { IfOk result AttributeWantsNoMemory }
 {
     let mut count = HeaderCount::new();
@@ -44,6 +45,7 @@ fn parts_within<'a>(
 #[tactic(auto, unfolding(crate::specs::Reading::attribute_in))]
 fn attribute_of<'a>(alloc: Global, any: Any<'a>) -> Result<X509CriAttribute<'a>, Refusal<X509Error>>
     ensures read { Gives attribute_view result (attribute_in deeply (any_of any.entry)) }
+    ensures counted { IfOk result IsCountedAttribute }
     ensures memory { IfOk result AttributeWantsNoMemory }
 {
     let is_sequence = match any.class() {
@@ -66,6 +68,7 @@ pub(crate) fn front_attribute<'a>(
     i: &'a [u8],
 ) -> X509Result<'a, X509CriAttribute<'a>>
     ensures read { Gives (λ r. (attribute_view r.1, r.0.now)) result (attribute_at deeply i.now) }
+    ensures counted { IfOk result (λ r. IsCountedAttribute r.1) }
     ensures memory { IfOk result (λ r. AttributeWantsNoMemory r.1) }
     ensures shorter { IfOk result (λ r. length r.0.now < length i.now) }
 {
@@ -84,6 +87,7 @@ fn all_attributes<'a>(
     octets: &'a [u8],
 ) -> Result<Vec<X509CriAttribute<'a>>, Refusal<X509Error>>
     ensures read { Gives (λ v. map attribute_view v.items) result (all_attributes_at deeply octets.now) }
+    ensures counted { IfOk result (λ v. All IsCountedAttribute v.items) }
     ensures memory { IfOk result (λ v. All AttributeWantsNoMemory v.items) }
 {
     let mut attributes = Vec::new(alloc);
@@ -126,6 +130,7 @@ pub(crate) fn attributes_of<'a>(
     left: &'a [u8],
 ) -> Result<Vec<X509CriAttribute<'a>>, Refusal<X509Error>>
     ensures read { Gives (λ v. map attribute_view v.items) result (attributes_at deeply left.now) }
+    ensures counted { IfOk result (λ v. All IsCountedAttribute v.items) }
     ensures memory { IfOk result (λ v. All AttributeWantsNoMemory v.items) }
 {
     let mut count = HeaderCount::new();

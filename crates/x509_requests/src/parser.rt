@@ -12,11 +12,11 @@ ghost use Rattle.x509_ext.specs.Values.{IsParsed, deeply};
 ghost use Rattle.x509_ext.specs.Extensions as extensions;
 ghost use Rattle.x509_ext.specs.Fields.{Extension};
 ghost use Rattle.x509_ext.specs.Fronts.{IsOnly};
-ghost use Rattle.x509_ext.specs.View.{extension_view, WantsNoMemory};
+ghost use Rattle.x509_ext.specs.View.{extension_view, IsCountedExtension, WantsNoMemory};
 ghost use Rattle.x509_requests.specs.Requests as grammar;
 ghost use Rattle.x509_requests.specs.Fields.{RequestAttribute, RequestInfo, Request};
 ghost use Rattle.x509_requests.specs.Reading.{requested_at, named_attribute_at, info_at, request_at};
-ghost use Rattle.x509_requests.specs.View.{attribute_view, info_view, request_view, AttributeWantsNoMemory, AttributesWantNoMemory, IsCountedInfo, IsCountedRequest};
+ghost use Rattle.x509_requests.specs.View.{attribute_view, info_view, request_view, AttributeWantsNoMemory, AttributesWantNoMemory, IsCountedAttribute, IsCountedInfo, IsCountedRequest};
 
 use crate::attribute::{ExtensionRequest, X509CriAttribute};
 use crate::attributes::front_attribute;
@@ -119,6 +119,7 @@ impl<'a> FromDer<'a, X509Error> for X509CriAttribute<'a> {
         ensures reads { Reads (λ given e. e ≡ told given) (Unit {0}) (λ _ _. ⊥) (λ i. i.now)
             (λ i v r. grammar.X509CriAttribute IsParsed i (attribute_view v) r) bytes.now result }
         ensures exact { Gives (λ r. (attribute_view r.1, r.0.now)) result (named_attribute_at deeply bytes.now) }
+        ensures counted { IfOk result (λ r. IsCountedAttribute r.1) }
         ensures memory { IfOk result (λ r. AttributeWantsNoMemory r.1) }
         ensures refused { IfErr result (IsOnly errors.InvalidAttributes) }
         ensures found { IfOk result (λ r. grammar.X509CriAttribute IsParsed bytes.now (attribute_view r.1) r.0.now) }
@@ -149,6 +150,7 @@ impl<'a> FromDer<'a, X509Error> for ExtensionRequest<'a> {
         ensures reads { Reads (λ given e. e ≡ told given) (Unit {0}) EndsWithinElement (λ i. i.now)
             (λ i v r. grammar.ExtensionRequest IsParsed i (map extension_view v.extensions.items) r) bytes.now result }
         ensures exact { Gives (λ r. (map extension_view r.1.extensions.items, r.0.now)) result (requested_at deeply bytes.now) }
+        ensures counted { IfOk result (λ r. All IsCountedExtension r.1.extensions.items) }
         ensures memory { IfOk result (λ r. All WantsNoMemory r.1.extensions.items) }
         ensures found { IfOk result (λ r. grammar.ExtensionRequest IsParsed bytes.now (map extension_view r.1.extensions.items) r.0.now) }
         ensures only { (v : List Extension) (rest : List ℕ) → grammar.ExtensionRequest IsParsed bytes.now v rest
@@ -188,6 +190,7 @@ fn info_at_front<'a>(alloc: Global, i: &'a [u8]) -> X509Result<'a, X509Certifica
 
 fn attribute_at_front<'a>(alloc: Global, i: &'a [u8]) -> X509Result<'a, X509CriAttribute<'a>>
     ensures exact { Gives (λ r. (attribute_view r.1, r.0.now)) result (named_attribute_at deeply i.now) }
+    ensures counted { IfOk result (λ r. IsCountedAttribute r.1) }
     ensures memory { IfOk result (λ r. AttributeWantsNoMemory r.1) }
     ensures refused { IfErr result (IsOnly errors.InvalidAttributes) }
 {
@@ -199,6 +202,7 @@ fn attribute_at_front<'a>(alloc: Global, i: &'a [u8]) -> X509Result<'a, X509CriA
 
 fn extensions_at_front<'a>(alloc: Global, i: &'a [u8]) -> X509Result<'a, ExtensionRequest<'a>>
     ensures exact { Gives (λ r. (map extension_view r.1.extensions.items, r.0.now)) result (requested_at deeply i.now) }
+    ensures counted { IfOk result (λ r. All IsCountedExtension r.1.extensions.items) }
     ensures memory { IfOk result (λ r. All WantsNoMemory r.1.extensions.items) }
     ensures missing { TellsMissing i.now result }
 {

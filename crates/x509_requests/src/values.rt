@@ -4,9 +4,9 @@ ghost use Rattle.std.specs.Prelude.{◌≡◌, ◌≤◌, length, All, IfOk, map
 ghost use Rattle.asn1_any.specs.Views.{any_of};
 ghost use Rattle.x509_core.specs.Answers.{Gives};
 ghost use Rattle.x509_ext.specs.Values.{deeply};
-ghost use Rattle.x509_ext.specs.View.{extension_view, WantsNoMemory};
+ghost use Rattle.x509_ext.specs.View.{extension_view, IsCountedExtension, WantsNoMemory};
 ghost use Rattle.x509_requests.specs.Reading.{requested_at, password_in, password_at, values_at};
-ghost use Rattle.x509_requests.specs.View.{values_view, ValuesWantNoMemory};
+ghost use Rattle.x509_requests.specs.View.{values_view, HasCountedRequest, ValuesWantNoMemory};
 
 use crate::attribute::{ChallengePassword, ExtensionRequest, ParsedCriAttribute};
 use asn1_any::Any;
@@ -64,6 +64,7 @@ fn front_password<'a>(alloc: Global, i: &'a [u8]) -> X509Result<'a, ChallengePas
 /// Reads an extension request from the front. Returns `(rest, request)`.
 fn front_request<'a>(alloc: Global, i: &'a [u8]) -> X509Result<'a, ExtensionRequest<'a>>
     ensures read { Gives (λ r. (map extension_view r.1.extensions.items, r.0.now)) result (requested_at deeply i.now) }
+    ensures counted { IfOk result (λ r. All IsCountedExtension r.1.extensions.items) }
     ensures memory { IfOk result (λ r. All WantsNoMemory r.1.extensions.items) }
     ensures shorter { IfOk result (λ r. length r.0.now ≤ length i.now) }
 {
@@ -81,6 +82,7 @@ pub(crate) fn values_of<'a>(
     i: &'a [u8],
 ) -> X509Result<'a, ParsedCriAttribute<'a>>
     ensures read { Gives (λ r. (values_view r.1, r.0.now)) result (values_at deeply oid.now i.now) }
+    ensures counted { IfOk result (λ r. HasCountedRequest r.1) }
     ensures memory { IfOk result (λ r. ValuesWantNoMemory r.1) }
     ensures shorter { IfOk result (λ r. length r.0.now ≤ length i.now) }
 {

@@ -7,7 +7,7 @@ use Rattle.x509_ext.specs.Fields.{reading_of}
 use Rattle.x509_core.specs.Reading.{first_piece}
 use Rattle.x509_core.proofs.Many.{next_more, next_stops, next_ends, refused_by}
 use Rattle.x509_ext.specs.Reading.{extension_in}
-use Rattle.x509_ext.specs.View.{extension_view, WantsNoMemory}
+use Rattle.x509_ext.specs.View.{extension_view, IsCountedExtension, WantsNoMemory}
 use Rattle.x509_ext.proofs.list.each_extension.Goals as goal
 
 pub loop-element-preserved : goal.loop-element-preserved
@@ -21,6 +21,7 @@ loop-element-preserved c =
     let step = next_more (λ p. extension_in (reading_of c.args.deep) p.element) (map extension_view c.loop-element.extensions.items) c.loop-element.parts.octets c.advance.new.self.octets e (extension_view c.in-Ok.extension) front c.advance.ensures.read c.in-Ok.ensures.read (omega (arith, shorter, content)) in
     record {
       read = rw (c.in_ok-push_in_room-in-Ok.ensures.items, map-append) (sym step ∙ c.loop-element.invariant.read);
+      counted = subst (All IsCountedExtension) (sym c.in_ok-push_in_room-in-Ok.ensures.items) (All-push IsCountedExtension c.loop-element.extensions.items _ c.loop-element.invariant.counted c.in-Ok.ensures.counted);
       memory = subst (All WantsNoMemory) (sym c.in_ok-push_in_room-in-Ok.ensures.items) (All-push WantsNoMemory c.loop-element.extensions.items _ c.loop-element.invariant.memory c.in-Ok.ensures.memory);
       grows = omega (arith, grows, c.loop-element.invariant.grows);
       shorter = omega (arith, shorter, c.loop-element.invariant.shorter);
@@ -39,6 +40,7 @@ returns-in_default-refusal c =
     let kept = c.shrink_to_fit.ensures.items in
     record {
       read = rw kept (sym c.loop-element.invariant.read ∙ stop);
+      counted = subst (All IsCountedExtension) (sym kept) c.loop-element.invariant.counted;
       memory = subst (All WantsNoMemory) (sym kept) c.loop-element.invariant.memory;
       grows = omega (arith, grows, c.loop-element.invariant.grows);
       shorter = omega (arith, c.loop-element.invariant.shorter);

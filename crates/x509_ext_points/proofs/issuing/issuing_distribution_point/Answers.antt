@@ -10,9 +10,9 @@ use Rattle.x509_ext_points.proofs.issuing.issuing_distribution_point.Goals as go
 pub returns-clause-found : goal.returns-clause-found
 returns-clause-found c =
     gives_found grammar.IssuingDistributionPoint issuing_at issuing_reading issuing_point_view c.args.i.now c.issuing_at_front.result
-    (octets_below c.args.i.now (λ k. omega (arith, c.type_inv.i k))) c.issuing_at_front.ensures
+    (octets_below c.args.i.now (λ k. omega (arith, c.type_inv.i k))) c.issuing_at_front.ensures.read
 
 pub returns-clause-only : goal.returns-clause-only
 returns-clause-only c =
     gives_only grammar.IssuingDistributionPoint issuing_at issuing_reading issuing_point_view c.args.i.now c.issuing_at_front.result
-    (octets_below c.args.i.now (λ k. omega (arith, c.type_inv.i k))) c.issuing_at_front.ensures
+    (octets_below c.args.i.now (λ k. omega (arith, c.type_inv.i k))) c.issuing_at_front.ensures.read

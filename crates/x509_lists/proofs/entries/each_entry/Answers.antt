@@ -7,7 +7,7 @@ use Rattle.x509_ext.specs.Fields.{reading_of}
 use Rattle.x509_core.specs.Reading.{first_piece}
 use Rattle.x509_core.proofs.Many.{next_more, next_stops, next_ends, refused_by}
 use Rattle.x509_lists.specs.Reading.{entry_in}
-use Rattle.x509_lists.specs.View.{entry_view, HasSerial, EntryWantsNoMemory}
+use Rattle.x509_lists.specs.View.{entry_view, HasSerial, IsCountedEntry, EntryWantsNoMemory}
 use Rattle.x509_lists.proofs.entries.each_entry.Goals as goal
 
 pub loop-element-preserved : goal.loop-element-preserved
@@ -22,6 +22,7 @@ loop-element-preserved c =
     record {
       read = rw (c.in_ok-push_in_room-in-Ok.ensures.items, map-append) (sym step ∙ c.loop-element.invariant.read);
       serials = subst (All HasSerial) (sym c.in_ok-push_in_room-in-Ok.ensures.items) (All-push HasSerial c.loop-element.entries.items _ c.loop-element.invariant.serials c.in-Ok.ensures.serial);
+      counted = subst (All IsCountedEntry) (sym c.in_ok-push_in_room-in-Ok.ensures.items) (All-push IsCountedEntry c.loop-element.entries.items _ c.loop-element.invariant.counted c.in-Ok.ensures.counted);
       memory = subst (All EntryWantsNoMemory) (sym c.in_ok-push_in_room-in-Ok.ensures.items) (All-push EntryWantsNoMemory c.loop-element.entries.items _ c.loop-element.invariant.memory c.in-Ok.ensures.memory);
       grows = omega (arith, grows, c.loop-element.invariant.grows);
       shorter = omega (arith, shorter, c.loop-element.invariant.shorter);
@@ -40,6 +41,7 @@ returns-in_default-refusal c =
     record {
       read = sym c.loop-element.invariant.read ∙ stop;
       serials = c.loop-element.invariant.serials;
+      counted = c.loop-element.invariant.counted;
       memory = c.loop-element.invariant.memory;
       grows = omega (arith, grows, c.loop-element.invariant.grows);
       shorter = omega (arith, c.loop-element.invariant.shorter);
