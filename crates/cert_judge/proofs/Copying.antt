@@ -1,20 +1,19 @@
 -- Equal items brought together, and what is issued among them.
 use Rattle.std.specs.Prelude.{◌↔◌, ◌⊎◌}
-use Rattle.std.proofs.Common.{◌≡◌, ◌∙◌, ap, sym, subst, refl, ℕ, ◌+◌, ◌-◌, ◌<◌, ◌≤◌, Bool, true, List, [], ◌∷◌, ◌++◌, length, map, length-append, arith, get_or, set, inl, inr, Bor, Vec, Global}
+use Rattle.std.proofs.Common.{◌≡◌, ◌∙◌, ap, sym, subst, refl, ℕ, ◌+◌, ◌-◌, ◌<◌, Bool, true, List, [], ◌∷◌, ◌++◌, length, map, length-append, arith, get_or, set, inl, inr, Bor}
 use Rattle.std.specs.List.{All, Any, Contains}
 use Rattle.std.specs.List.Sorted.{IsStrictlyIncreasing}
 use Rattle.std.proofs.Math.ListN.{get_or-append}
 use Rattle.std.proofs.Math.Seq.{get_or-append_seam}
 use Rattle.std.proofs.lemmas.Bool.{cases_lt, cases_eq}
-use Rattle.std.proofs.lemmas.List.{get_or_default, get_or-map, length-map, length-set, get_or-set_same, get_or-set_other}
-use Rattle.std.proofs.lemmas.List.Elements.{Contains-get_or}
+use Rattle.std.proofs.lemmas.List.{get_or_default, length-set, get_or-set_same, get_or-set_other}
 use Rattle.std.specs.Str.{bytes_eq}
 use Rattle.std.specs.Cmp.Lexicographic.{pointwise}
 use Rattle.std.specs.Cmp.Derive.Mapped.{pointwise-map}
 use Rattle.std.proofs.lemmas.Slice.Eq.{slice_eq-Decides, bytes_eq-Decides}
 use Rattle.std.proofs.lemmas.List.Kept.{AllPairs-from_increasing}
 use Rattle.cert_graph.specs.Entries.{IsAt}
-use Rattle.cert_graph.specs.Lists.{HasLast, IsPut}
+use Rattle.cert_graph.specs.Lists.{IsPut}
 use Rattle.cert_graph.proofs.Sifted.{push_ascends}
 use Rattle.cert_judge.specs.declared.judged.JudgedCertificate.{JudgedCertificate}
 use Rattle.cert_judge.specs.declared.judged.JudgedList.{JudgedList}
@@ -23,7 +22,7 @@ use Rattle.cert_judge.specs.declared.judged.JudgedItem.TheVariants.{Certificate 
 use Rattle.cert_judge.specs.Standing.{WithCertificate, WithList, IsUsedBy, HasSerial, IsUsedAt, IsUsedAgainstAt, StandsBy, IsIssuedAt}
 use Rattle.cert_judge.specs.Copies.{IsSameList, AreAlike, AreAlikeAt, IsIn, AreCopies}
 use Rattle.cert_judge.proofs.Grouping.{element}
-use Rattle.cert_judge.proofs.Listed.{in_plain, in_pushed, in_set, pushed}
+use Rattle.cert_judge.proofs.Listed.{in_plain, in_pushed, in_set}
 use Rattle.cert_judge.proofs.Mapped.{any_to, any_from}
 
 -- texts that are equal one by one

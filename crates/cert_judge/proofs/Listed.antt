@@ -1,6 +1,6 @@
 -- Which of some lists has a place, as lists are put together.
 use Rattle.std.specs.Prelude.{◌↔◌, ◌⊎◌}
-use Rattle.std.proofs.Common.{◌≡◌, ◌∙◌, ap, sym, subst, refl, ℕ, ◌+◌, ◌<◌, ◌≤◌, List, [], ◌∷◌, ◌++◌, length, map, length-append, arith, get_or, set, inl, inr, Vec, Global}
+use Rattle.std.proofs.Common.{◌≡◌, ◌∙◌, ap, sym, subst, refl, ℕ, ◌<◌, ◌≤◌, List, [], ◌∷◌, ◌++◌, length, map, length-append, arith, get_or, set, inl, inr, Vec, Global}
 use Rattle.std.specs.List.{Contains}
 use Rattle.std.proofs.Math.ListN.{get_or-append}
 use Rattle.std.proofs.Math.Seq.{get_or-append_seam}
@@ -8,7 +8,7 @@ use Rattle.std.proofs.lemmas.Bool.{cases_lt, cases_eq}
 use Rattle.std.proofs.lemmas.List.{get_or_default, get_or-map, length-map, length-set, get_or-set_same, get_or-set_other, map-append}
 use Rattle.std.proofs.lemmas.List.Elements.{Contains-append_left, Contains-append_right, Contains-append_cases, Contains-push, Contains-push_cases}
 use Rattle.cert_judge.specs.Copies.{IsIn}
-use Rattle.cert_judge.proofs.Before.{SomeBefore, none_before, before_more, before_all}
+use Rattle.cert_judge.proofs.Before.{SomeBefore, before_all}
 
 abbrev pub lists_of : List (Vec ℕ Global) → List (List ℕ)
 lists_of vectors = map (λ l. l.items) vectors

@@ -1,6 +1,6 @@
 -- Links by rows, from the side of keys and from the side of copies.
 use Rattle.std.specs.Prelude.{◌↔◌, ◌⊎◌}
-use Rattle.std.proofs.Common.{◌≡◌, ◌∙◌, ap, sym, subst, refl, ℕ, ◌+◌, ◌<◌, ◌≤◌, List, [], ◌∷◌, ◌++◌, length, map, length-append, arith, get_or, inl, inr, Vec, Global}
+use Rattle.std.proofs.Common.{◌≡◌, ◌∙◌, ap, sym, subst, refl, ℕ, ◌+◌, ◌<◌, List, [], ◌∷◌, ◌++◌, length, length-append, arith, get_or, inl, inr}
 use Rattle.std.specs.List.{All, Contains}
 use Rattle.std.proofs.lemmas.Bool.{cases_lt}
 use Rattle.std.proofs.lemmas.List.Elements.{All-contains, Contains-get_or}
@@ -9,9 +9,9 @@ use Rattle.cert_graph.specs.declared.places.Place.{Place}
 use Rattle.cert_graph.specs.Links.{Adds, IsPlaceLink, IsPlaceAnchor}
 use Rattle.cert_graph.specs.Lists.{AreFilled}
 use Rattle.cert_graph.proofs.Adding.{adds_none, adds_then, adds_as}
-use Rattle.cert_judge.specs.Copies.{IsIn, IsSided, IsLinkBy, IsAnchorBy, AreLinkable}
-use Rattle.cert_judge.proofs.Before.{SomeBefore, none_before, before_more, before_all}
-use Rattle.cert_judge.proofs.Listed.{lists_of, in_list, in_plain, in_pushed, mapped_push, pushed, appended, met_all, some_all}
+use Rattle.cert_judge.specs.Copies.{IsIn, IsSided, IsLinkBy, IsAnchorBy}
+use Rattle.cert_judge.proofs.Before.{SomeBefore, none_before, before_more}
+use Rattle.cert_judge.proofs.Listed.{in_plain, in_pushed, pushed, met_all}
 
 none_in : (v : ℕ) → Contains {X = ℕ} [] v → ⊥
 none_in v h = let lt = h.1 in absurd (omega arith)

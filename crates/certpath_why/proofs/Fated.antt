@@ -1,13 +1,10 @@
 -- The links of a certificate to those that were read, by the definitions.
-use Rattle.std.specs.Prelude.{◌↔◌}
-use Rattle.std.proofs.Common.{◌≡◌, ◌∙◌, sym, subst, refl, ℕ, List, map, get_or}
+use Rattle.std.proofs.Common.{◌≡◌, ◌∙◌, sym, subst, refl, ℕ, List, get_or}
 use Rattle.cert_graph.specs.Entries.{IsAt}
 use Rattle.cert_model.specs.Fields.{Certificate}
 use Rattle.cert_model.specs.Octets.{name_octets, key_octets}
 use Rattle.cert_judge.specs.declared.items.CertificateItem.{CertificateItem}
-use Rattle.cert_judge.specs.declared.items.ReadItem.{ReadItem}
-use Rattle.cert_judge.specs.declared.items.ReadItem.TheVariants.{Certificate as certificate_read}
-use Rattle.cert_judge.specs.Items.{item_of, certificate_of, certificate_item}
+use Rattle.cert_judge.specs.Items.{certificate_of, certificate_item}
 use Rattle.cert_judge.specs.ItemGraph.{IsCertificateWith, KeyIdsAgree, IsIssuedUnder, IsLink, IsAnchorLink}
 use Rattle.cert_judge.specs.Revoking.{Item, JudgingContext}
 use Rattle.cert_model.specs.Class.{certificate}
@@ -18,7 +15,6 @@ use Rattle.certpath_why.specs.Why.{FailsTo, IsLinkedTo}
 use Rattle.cert_reasons.specs.declared.links.Unlinked.{Unlinked}
 use Rattle.cert_reasons.specs.Links.{HasLinkReason}
 use Rattle.certpath_why.specs.Reached.{HasSubject}
-use Rattle.certpath_why.proofs.Items.{at_read, with_read}
 
 -- whatever a reason is against has the issuer's name
 pub fails_named : (r : JudgingContext) (items others : List Item) (x : Item) (c : Certificate) (name : List ℕ) (Agree : Certificate → Type 0) (reason : Unlinked) (w : ℕ) → name ≡ name_octets c.issuer

@@ -1,6 +1,6 @@
 -- Lines of positions.
 use Rattle.std.specs.Prelude.{◌↔◌}
-use Rattle.std.proofs.Common.{◌≡◌, refl, ap, ℕ, List, [], ◌∷◌, ◌++◌, Option, Some, None}
+use Rattle.std.proofs.Common.{◌≡◌, refl, ℕ, List, [], ◌∷◌, ◌++◌, Option, Some, None}
 use Rattle.cert_reasons.specs.declared.links.Unlinked.{Unlinked}
 use Rattle.cert_reasons.specs.declared.links.Unlinked.TheVariants.{NotVouched, KeyIdsDiffer, RevokedBy, NoUsedList}
 use Rattle.certpath_why.specs.declared.ranges.Range.{Range}

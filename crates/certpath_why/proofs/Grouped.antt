@@ -1,6 +1,6 @@
 -- Links of one certificate, brought together by what is said of them.
 use Rattle.std.specs.Prelude.{◌↔◌}
-use Rattle.std.proofs.Common.{◌≡◌, ◌∙◌, ap, sym, subst, refl, ℕ, ◌<◌, List, [], length, map, arith, get_or, Some}
+use Rattle.std.proofs.Common.{◌≡◌, ◌∙◌, ap, sym, subst, refl, ℕ, ◌<◌, List, length, map, get_or, Some}
 use Rattle.std.specs.List.{Contains}
 use Rattle.cert_graph.specs.Entries.{IsAt}
 use Rattle.cert_model.specs.Class.{certificate}
@@ -9,7 +9,7 @@ use Rattle.cert_model.specs.Octets.{name_octets, key_octets}
 use Rattle.cert_judge.specs.declared.items.CertificateItem.{CertificateItem}
 use Rattle.cert_judge.specs.declared.items.ReadItem.{ReadItem}
 use Rattle.cert_judge.specs.Items.{certificate_of, certificate_item, item_of}
-use Rattle.cert_judge.specs.ItemGraph.{IsCertificateWith, IsLink, IsAnchorLink}
+use Rattle.cert_judge.specs.ItemGraph.{IsCertificateWith, IsLink}
 use Rattle.cert_judge.specs.Revoking.{Item, JudgingContext}
 use Rattle.cert_judge.proofs.Grouping.{element, one_certificate}
 use Rattle.cert_judge.proofs.Linking.{with_iff}

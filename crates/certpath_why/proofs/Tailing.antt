@@ -1,5 +1,5 @@
 -- The ends of lines, and lines that were written, by kinds.
-use Rattle.std.specs.Prelude.{◌↔◌, slice_get}
+use Rattle.std.specs.Prelude.{slice_get}
 use Rattle.std.proofs.Common.{◌≡◌, ◌∙◌, ap, sym, subst, refl, ℕ, ◌+◌, ◌<◌, ◌≤◌, cond, List, [], ◌∷◌, ◌++◌, length, take, get_or, append_assoc, append-nil, Option, Some, None, Vec, Global, String, string_bytes, arith, inl, inr}
 use Rattle.std.specs.List.{Contains}
 use Rattle.std.specs.List.Sorted.{IsStrictlyIncreasing}
@@ -23,7 +23,7 @@ use Rattle.certpath_why.specs.Listed.{listed}
 use Rattle.certpath_why.specs.Ranges.{AreRanges, range_text}
 use Rattle.certpath_why.specs.Why.{AreTexts, TellsGroup, TellsGroups}
 use Rattle.certpath_why.specs.declared.ranges.Range.{Range}
-use Rattle.certpath_why.proofs.Fating.{line_is, ranges_as}
+use Rattle.certpath_why.proofs.Fating.{line_is}
 use Rattle.certpath_why.proofs.Texts.{texts_append, texts_one}
 
 one_place : {a b : ℕ} → Some a ≡ Some b → a ≡ b

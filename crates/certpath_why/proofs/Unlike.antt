@@ -1,7 +1,5 @@
 -- Key identifiers that differ, for certificates that name one and the same.
-use Rattle.std.specs.Prelude.{◌↔◌}
-use Rattle.std.proofs.Common.{◌≡◌, ◌∙◌, sym, subst, ℕ, List, [], Vec, Global}
-use Rattle.cert_model.specs.Octets.{name_octets}
+use Rattle.std.proofs.Common.{◌≡◌, ◌∙◌, sym, subst, ℕ, List, []}
 use Rattle.cert_judge.specs.declared.items.CertificateItem.{CertificateItem}
 use Rattle.cert_judge.specs.Items.{certificate_of}
 use Rattle.cert_judge.specs.Revoking.{Item}

@@ -1,6 +1,6 @@
 -- Under whose keys a list is used.
 use Rattle.std.specs.Prelude.{◌↔◌}
-use Rattle.std.proofs.Common.{Bool, true, ◌≡◌, ◌∙◌, refl, ap, sym, subst, ℕ, List, map, Some}
+use Rattle.std.proofs.Common.{Bool, true, ◌≡◌, ◌∙◌, ap, sym, subst, ℕ, List, map, Some}
 use Rattle.std.specs.List.{Contains}
 use Rattle.jiff_core.specs.declared.civil.datetime.DateTime.{DateTime}
 use Rattle.cert_graph.specs.Entries.{IsAt}
@@ -13,10 +13,8 @@ use Rattle.cert_judge.specs.Items.{item_of, rules_by, IsListWith}
 use Rattle.cert_judge.specs.ItemGraph.{IsCertificateWith}
 use Rattle.cert_judge.specs.Revoking.{Item, JudgingContext, HasUsedList}
 use Rattle.cert_judge.specs.Vouching.{Vouching}
-use Rattle.cert_judge.proofs.Grouping.{element}
 use Rattle.cert_reasons.specs.Listed.{ArePlaces, IsInForce, IsInForceAt, IsOf}
 use Rattle.cert_reasons.proofs.Listing.{used_iff}
-use Rattle.cert_reasons.proofs.Marks.{there_at}
 use Rattle.certpath_why.specs.Cuts.{IsCutOf}
 use Rattle.certpath_why.specs.Ranges.{AreRanges, IsInRanges}
 use Rattle.certpath_why.specs.Reached.{ArePositions, HasSubject}

@@ -1,4 +1,4 @@
-use Rattle.std.proofs.Common.{◌≡◌, ℕ, ◌+◌, ◌<◌, ◌∷◌, ◌++◌, List, [], length, get_or, subst, arith, rules}
+use Rattle.std.proofs.Common.{◌≡◌, ◌+◌, ◌<◌, ◌∷◌, ◌++◌, [], length, get_or, subst, arith, rules}
 use Rattle.cert_judge.specs.Copies.{AreAlikeAt}
 use Rattle.cert_judge.proofs.Listed.{lists_of, mapped_push}
 use Rattle.cert_judge.proofs.Copying.{CopiesUpTo, copies_known, copies_new, copies_all}

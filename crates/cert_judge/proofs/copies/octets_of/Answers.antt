@@ -1,5 +1,5 @@
-use Rattle.std.proofs.Common.{◌≡◌, ◌∙◌, ap, sym, ℕ, ◌+◌, ◌∷◌, ◌++◌, List, [], length, map, take, get_or, arith}
-use Rattle.std.proofs.lemmas.List.{take_more, take_all, map-append}
+use Rattle.std.proofs.Common.{◌≡◌, ◌∙◌, ap, take, arith}
+use Rattle.std.proofs.lemmas.List.{take_all}
 use Rattle.cert_judge.specs.Copies.{octets_at}
 use Rattle.cert_judge.proofs.copies.octets_of.Goals as goal
 

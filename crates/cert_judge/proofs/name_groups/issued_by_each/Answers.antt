@@ -1,7 +1,7 @@
-use Rattle.std.proofs.Common.{◌≡◌, ◌∙◌, ap, sym, subst, ℕ, ◌+◌, ◌<◌, ◌++◌, ◌∷◌, List, [], length, get_or, Bor, arith}
+use Rattle.std.proofs.Common.{◌≡◌, ◌∙◌, ap, sym, subst, ℕ, ◌+◌, ◌<◌, List, [], length, get_or, Bor, arith}
 use Rattle.std.specs.Prelude.{◌↔◌, All, Contains}
 use Rattle.std.specs.List.Sorted.{IsStrictlyIncreasing}
-use Rattle.cert_judge.specs.Rows.{IsRow, AreRows}
+use Rattle.cert_judge.specs.Rows.{AreRows}
 use Rattle.cert_judge.specs.Standing.{anything, IsIssuedAt}
 use Rattle.cert_judge.specs.Copies.{places_at}
 use Rattle.cert_judge.proofs.Listed.{lists_of, mapped_push}

@@ -1,11 +1,8 @@
-use Rattle.std.proofs.Common.{◌≡◌, ◌∙◌, ap, sym, subst, ℕ, ◌+◌, ◌<◌, List, [], length, map, Bor, Vec, Global, arith}
-use Rattle.std.specs.Prelude.{All, Contains}
+use Rattle.std.proofs.Common.{◌≡◌, ◌∙◌, ap, sym, subst, ℕ, ◌<◌, List, length, map, Bor, Vec, Global}
+use Rattle.std.specs.Prelude.{All}
 use Rattle.std.specs.List.Sorted.{IsStrictlyIncreasing}
 use Rattle.std.proofs.lemmas.List.{length-map}
 use Rattle.cert_graph.specs.declared.buckets.Bucket.{Bucket}
-use Rattle.cert_graph.specs.declared.places.Part.TheVariants.{Key}
-use Rattle.cert_graph.specs.Places.{Shows}
-use Rattle.cert_graph.specs.Buckets.{AreBuckets}
 use Rattle.cert_graph.specs.Links.{Adds}
 use Rattle.cert_graph.proofs.Adding.{adds_as}
 use Rattle.cert_judge.specs.Copies.{AreCopies, AreIssuedRows, IsSided, IsLinkBy, IsAnchorBy, AreLinkable}

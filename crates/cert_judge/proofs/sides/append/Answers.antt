@@ -1,7 +1,6 @@
 use Rattle.std.proofs.Common.{◌≡◌, ◌∙◌, ◌++◌, ap, sym, subst, ℕ, List, inl, inr}
-use Rattle.std.specs.Prelude.{◌↔◌, ◌⊎◌, Contains}
-use Rattle.cert_judge.specs.Copies.{IsIn}
-use Rattle.cert_judge.proofs.Listed.{lists_of, in_list, appended}
+use Rattle.std.specs.Prelude.{Contains}
+use Rattle.cert_judge.proofs.Listed.{in_list, appended}
 use Rattle.cert_judge.proofs.sides.append.Goals as goal
 
 pub returns-in_ok-extend_from_slice : goal.returns-in_ok-extend_from_slice

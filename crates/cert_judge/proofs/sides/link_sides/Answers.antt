@@ -1,4 +1,4 @@
-use Rattle.std.proofs.Common.{◌≡◌, subst, map, Vec, Global, List, ℕ}
+use Rattle.std.proofs.Common.{subst, Vec, Global, List, ℕ}
 use Rattle.cert_graph.specs.Links.{Adds}
 use Rattle.cert_judge.specs.Copies.{IsSided, IsLinkBy, IsAnchorBy}
 use Rattle.cert_judge.proofs.Listed.{lists_of}

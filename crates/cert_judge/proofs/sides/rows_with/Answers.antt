@@ -1,5 +1,5 @@
 -- One number more of a row, and one row more.
-use Rattle.std.proofs.Common.{◌≡◌, ◌∙◌, ap, ℕ, ◌+◌, ◌<◌, List, [], length, take, map, get_or, sym, Vec, Global, arith, subst}
+use Rattle.std.proofs.Common.{◌≡◌, ℕ, ◌+◌, ◌<◌, List, length, get_or, sym, Vec, Global, arith, subst}
 use Rattle.std.proofs.lemmas.List.{length-map}
 use Rattle.cert_graph.specs.Lists.{AreFilled}
 use Rattle.cert_graph.proofs.Filled.{filled_none, filled_put, filled_weaker}

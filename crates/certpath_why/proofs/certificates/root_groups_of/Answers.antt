@@ -1,6 +1,3 @@
-use Rattle.cert_judge.specs.Items.{certificate_item}
-use Rattle.certpath_why.specs.Question.{anchors_in, items_in, rules_in}
-use Rattle.certpath_why.specs.Why.{IsLinkedToAnchor}
 use Rattle.certpath_why.proofs.Fating.{ranges_as}
 use Rattle.certpath_why.proofs.Issues.{linked_anchor_iff}
 use Rattle.certpath_why.proofs.certificates.root_groups_of.Goals as goal

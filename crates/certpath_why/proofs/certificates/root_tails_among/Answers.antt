@@ -1,4 +1,4 @@
-use Rattle.std.proofs.Common.{subst, List, ℕ, Some, None, [], refl}
+use Rattle.std.proofs.Common.{subst, List, ℕ, Some, None, []}
 use Rattle.cert_judge.specs.Items.{certificate_of, certificate_item}
 use Rattle.cert_model.specs.Fields.{Certificate}
 use Rattle.cert_reasons.specs.declared.links.Unlinked.TheVariants.{KeyIdsDiffer, NotVouched, NoUsedList}

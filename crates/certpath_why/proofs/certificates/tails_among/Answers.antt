@@ -2,7 +2,7 @@ use Rattle.std.proofs.Common.{subst, List, ℕ, Some, None, []}
 use Rattle.cert_judge.specs.ItemGraph.{KeyIdsAgree}
 use Rattle.cert_judge.specs.Items.{certificate_of, certificate_item}
 use Rattle.cert_model.specs.Fields.{Certificate}
-use Rattle.cert_reasons.specs.declared.links.Unlinked.TheVariants.{KeyIdsDiffer, NotVouched, NoUsedList}
+use Rattle.cert_reasons.specs.declared.links.Unlinked.TheVariants.{NotVouched, NoUsedList}
 use Rattle.certpath_why.specs.Kinds.{AddsTails}
 use Rattle.certpath_why.specs.Question.{items_in, rules_in}
 use Rattle.certpath_why.specs.Used.{LacksListAt}

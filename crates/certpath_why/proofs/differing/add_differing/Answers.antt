@@ -1,4 +1,4 @@
-use Rattle.std.proofs.Common.{sym, subst, List, ℕ, Some}
+use Rattle.std.proofs.Common.{sym, Some}
 use Rattle.cert_judge.specs.Items.{certificate_of}
 use Rattle.cert_reasons.specs.declared.links.Unlinked.TheVariants.{KeyIdsDiffer}
 use Rattle.std.specs.List.{Contains}

@@ -1,4 +1,3 @@
-use Rattle.std.proofs.Common.{refl}
 use Rattle.certpath_why.proofs.Issues.{all_agree, bare_agree, both_agree}
 use Rattle.certpath_why.proofs.issuing.linked_among.Goals as goal
 

@@ -1,4 +1,3 @@
-use Rattle.std.proofs.Common.{ℕ}
 use Rattle.cert_graph.proofs.Sifted.{Sifted}
 use Rattle.certpath_why.specs.Named.{HasId}
 use Rattle.certpath_why.proofs.named.bare_among.Given as goal

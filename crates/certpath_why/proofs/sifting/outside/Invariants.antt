@@ -1,4 +1,3 @@
-use Rattle.std.proofs.Common.{ℕ}
 use Rattle.cert_graph.proofs.Sifted.{Sifted}
 use Rattle.certpath_why.specs.Ranges.{IsInRanges}
 use Rattle.certpath_why.proofs.sifting.outside.Given as goal

@@ -1,4 +1,3 @@
-use Rattle.std.specs.List.{Contains}
 use Rattle.std.proofs.Common.{sym, subst, List, ℕ}
 use Rattle.cert_judge.proofs.Mapped.{not_both}
 use Rattle.certpath_why.specs.Question.{items_in, rules_in}

@@ -1,9 +1,7 @@
 use Rattle.std.proofs.Common.{◌∙◌, ap, sym, Some}
 use Rattle.std.specs.List.{Contains}
 use Rattle.cert_judge.specs.declared.items.ReadItem.TheVariants.{Certificate as certificate_read}
-use Rattle.cert_judge.specs.Items.{certificate_item}
 use Rattle.certpath_why.specs.Issuing.{IsIssuedAt}
-use Rattle.certpath_why.specs.Named.{AreIssuers}
 use Rattle.certpath_why.specs.Question.{items_in, rules_in}
 use Rattle.certpath_why.specs.Ranges.{IsInRanges}
 use Rattle.certpath_why.specs.Sides.{others_of}

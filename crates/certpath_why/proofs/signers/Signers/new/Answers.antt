@@ -1,5 +1,5 @@
 use Rattle.std.proofs.Common.{map}
-use Rattle.certpath_why.specs.Signers.{issued_place, AreSignedBy}
+use Rattle.certpath_why.specs.Signers.{issued_place}
 use Rattle.certpath_why.proofs.signers.Signers.new.Goals as goal
 
 pub returns-clause-issuers : goal.returns-clause-issuers
