@@ -1,7 +1,8 @@
 """Families of `why` over links that don't hold: lists that revoke, copies, and what is demanded."""
 from family import FAMILIES, Files, family
-from graphs import ANCHOR, COMMON_KEY, LEAF, ROOT, X, ids_never, lists, own_keys, self_serials
-from kinds import COPIES, PAIRS
+from graphs import (ANCHOR, COMMON_KEY, LEAF, ROOT, ROOT_KEY, X, ids_never, lists, own_keys,
+                    self_serials)
+from kinds import HELD_BACK, PAIRS
 from parts import certificate, element, entry, extension, integer, key, name, revocation_list, voucher
 
 # Sizes at which a square shows.
@@ -60,12 +61,26 @@ def ids_linked(count):
 
 
 @family("why-copies-reached", "a leaf, n/2 copies of a certificate of its issuer's name, and n/2 keys "
-        "of that one's issuer that all vouch for it", "why", **OF_SQUARE, known=COPIES)
+        "of that one's issuer that all vouch for it", "why", **OF_SQUARE)
 def copies_reached(count):
     half = count // 2
     leaf, item = certificate(LEAF, X, COMMON_KEY), certificate(X, Y, COMMON_KEY)
     lines = [voucher(COMMON_KEY, leaf)] + [voucher(key(it), item) for it in range(half)]
     return Files([leaf, *[item] * half, *own_keys(half, Y, ROOT)], [ANCHOR], lines)
+
+
+@family("why-held-ids", "a leaf, n/2 certificates of its issuer's name that name a key identifier "
+        "each, and n/2 of their issuer's name and one key that have one each; the first of these "
+        "leads to the anchor with nothing below it", "why",
+        sizes=(2_000, 4_000, 8_000, 16_000), small=(1_000, 4_000), known=HELD_BACK)
+def held_ids(count):
+    half, ids = count // 2, [it.to_bytes(4, "big") for it in range(count // 2)]
+    leaf = certificate(LEAF, X, COMMON_KEY)
+    below = [certificate(X, Y, COMMON_KEY, 1 + it, named=ids[it]) for it in range(half)]
+    first = certificate(Y, ROOT, COMMON_KEY, limit=0, own=ids[0])
+    above = [first, *(certificate(Y, ROOT, COMMON_KEY, 1 + it, own=ids[it]) for it in range(1, half))]
+    lines = [voucher(COMMON_KEY, it) for it in [leaf, *below]] + [voucher(ROOT_KEY, first)]
+    return Files([leaf, *below, *above], [ANCHOR], lines)
 
 
 @family("why-demand-ids", "n certificates \"x from x\", keys in a row, key identifiers that never "
