@@ -14,7 +14,7 @@ ghost use Rattle.x509_algorithms.specs.Parameters as grammar;
 ghost use Rattle.x509_algorithms.specs.Parameters.{hash_of, IsMaskGen, source_of};
 ghost use Rattle.x509_algorithms.specs.Reading.{parameters_of, oaep_parts_at, oaep_in, oaep_at};
 ghost use Rattle.x509_algorithms.specs.Values as values;
-ghost use Rattle.x509_algorithms.specs.View.{oaep_view, mask_view};
+ghost use Rattle.x509_algorithms.specs.View.{IsCountedOaep, oaep_view, mask_view};
 
 use crate::mask::{MaskGenAlgorithm, hash_identifier, mask_of};
 use crate::tagged::next_algorithm;
@@ -54,6 +54,7 @@ impl<'a> RsaAesOaepParams<'a> {
     pub fn try_from(alloc: Global, any: Any<'a>) -> Result<RsaAesOaepParams<'a>, X509Error>
         ensures exact { Returns oaep_view result (parameters_of oaep_parts_at (any_of any.entry)) }
         ensures tag { IfErr result (IsTagError (any_of any.entry)) }
+        ensures counted { IfOk result IsCountedOaep }
         ensures memory { IfErr result (WantsBelow 3 (any_of any.entry)) }
         ensures found { IfOk result (λ p. grammar.OaepOf (any_of any.entry) (oaep_view p)) }
         ensures only { (v : values.RsaAesOaepParams) → grammar.OaepOf (any_of any.entry) v
@@ -120,6 +121,7 @@ impl<'a> RsaAesOaepParams<'a> {
 #[tactic(auto, unfolding(crate::specs::Reading::oaep_parts_at))]
 fn parts<'a>(alloc: Global, i: &'a [u8]) -> X509Result<'a, RsaAesOaepParams<'a>>
     ensures read { Gives (λ r. (oaep_view r.1, r.0.now)) result (oaep_parts_at i.now) }
+    ensures counted { IfOk result (λ r. IsCountedOaep r.1) }
     ensures memory { IfErr result (WantsFor (HasPartBelow 3 i.now)) }
 {
     let (i, hash_alg) = next_algorithm(alloc, 0, i)?;
@@ -138,6 +140,7 @@ fn parts<'a>(alloc: Global, i: &'a [u8]) -> X509Result<'a, RsaAesOaepParams<'a>>
 /// Reads the parameters from the front of a content. Returns `(rest, parameters)`.
 fn held<'a>(alloc: Global, content: &'a [u8]) -> X509Result<'a, RsaAesOaepParams<'a>>
     ensures exact { Gives (λ r. (oaep_view r.1, r.0.now)) result (oaep_parts_at content.now) }
+    ensures counted { IfOk result (λ r. IsCountedOaep r.1) }
     ensures memory { IfErr result (WantsFor (HasPartBelow 3 content.now)) }
     ensures found { IfOk result (λ r. grammar.OaepParts content.now (oaep_view r.1) r.0.now) }
     ensures only { (v : values.RsaAesOaepParams) (left : List ℕ) → grammar.OaepParts content.now v left
@@ -148,7 +151,8 @@ fn held<'a>(alloc: Global, content: &'a [u8]) -> X509Result<'a, RsaAesOaepParams
 
 /// Reads the parameters in an element of tag number 16.
 fn oaep_of<'a>(alloc: Global, any: Any<'a>) -> Result<RsaAesOaepParams<'a>, Refusal<X509Error>>
-    ensures { Gives oaep_view result (parameters_of oaep_parts_at (any_of any.entry)) }
+    ensures read { Gives oaep_view result (parameters_of oaep_parts_at (any_of any.entry)) }
+    ensures counted { IfOk result IsCountedOaep }
 {
     let content = content_of(16, any)?;
     let (_, value) = parts(alloc, content)?;
@@ -159,7 +163,8 @@ fn value_of<'a>(
     alloc: Global,
     element: Element<'a>,
 ) -> Result<RsaAesOaepParams<'a>, Refusal<X509Error>>
-    ensures { Gives oaep_view result (oaep_in (piece_of element.entry)) }
+    ensures read { Gives oaep_view result (oaep_in (piece_of element.entry)) }
+    ensures counted { IfOk result IsCountedOaep }
 {
     if !element.any.header.is_constructed() {
         return Err(Refusal::Error(X509Error::Der(Error::ConstructExpected)));
@@ -192,6 +197,7 @@ impl<'a> FromDer<'a, X509Error> for RsaAesOaepParams<'a> {
         ensures found { IfOk result (λ r. grammar.RsaAesOaepParams bytes.now (oaep_view r.1) r.0.now) }
         ensures only { (v : values.RsaAesOaepParams) (rest : List ℕ) → grammar.RsaAesOaepParams bytes.now v rest
             → ElseMemory result (λ r. (oaep_view r.1 ≡ v) × (r.0.now ≡ rest)) }
+        ensures counted { IfOk result (λ r. IsCountedOaep r.1) }
     {
         value_at_front(alloc, bytes)
     }
@@ -199,6 +205,7 @@ impl<'a> FromDer<'a, X509Error> for RsaAesOaepParams<'a> {
 
 fn value_at_front<'a>(alloc: Global, i: &'a [u8]) -> X509Result<'a, RsaAesOaepParams<'a>>
     ensures exact { Gives (λ r. (oaep_view r.1, r.0.now)) result (oaep_at i.now) }
+    ensures counted { IfOk result (λ r. IsCountedOaep r.1) }
     ensures missing { TellsMissing i.now result }
     ensures shorter { IfOk result (λ r. length r.0.now < length i.now) }
 {

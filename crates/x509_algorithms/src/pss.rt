@@ -14,7 +14,7 @@ ghost use Rattle.x509_algorithms.specs.Parameters as grammar;
 ghost use Rattle.x509_algorithms.specs.Parameters.{hash_of, IsMaskGen, salt_length_of, trailer_field_of};
 ghost use Rattle.x509_algorithms.specs.Reading.{parameters_of, pss_parts_at, pss_in, pss_at};
 ghost use Rattle.x509_algorithms.specs.Values as values;
-ghost use Rattle.x509_algorithms.specs.View.{pss_view, mask_view};
+ghost use Rattle.x509_algorithms.specs.View.{IsCountedPss, pss_view, mask_view};
 
 use crate::mask::{MaskGenAlgorithm, hash_identifier, mask_of};
 use crate::tagged::{next_algorithm, next_number};
@@ -45,6 +45,7 @@ impl<'a> RsaSsaPssParams<'a> {
     pub fn try_from(alloc: Global, any: Any<'a>) -> Result<RsaSsaPssParams<'a>, X509Error>
         ensures exact { Returns pss_view result (parameters_of pss_parts_at (any_of any.entry)) }
         ensures tag { IfErr result (IsTagError (any_of any.entry)) }
+        ensures counted { IfOk result IsCountedPss }
         ensures memory { IfErr result (WantsBelow 2 (any_of any.entry)) }
         ensures found { IfOk result (λ p. grammar.PssOf (any_of any.entry) (pss_view p)) }
         ensures only { (v : values.RsaSsaPssParams) → grammar.PssOf (any_of any.entry) v
@@ -113,6 +114,7 @@ impl<'a> RsaSsaPssParams<'a> {
 #[tactic(auto, unfolding(crate::specs::Reading::pss_parts_at))]
 fn parts<'a>(alloc: Global, i: &'a [u8]) -> X509Result<'a, RsaSsaPssParams<'a>>
     ensures read { Gives (λ r. (pss_view r.1, r.0.now)) result (pss_parts_at i.now) }
+    ensures counted { IfOk result (λ r. IsCountedPss r.1) }
     ensures memory { IfErr result (WantsFor (HasPartBelow 2 i.now)) }
 {
     let (i, hash_alg) = next_algorithm(alloc, 0, i)?;
@@ -133,6 +135,7 @@ fn parts<'a>(alloc: Global, i: &'a [u8]) -> X509Result<'a, RsaSsaPssParams<'a>>
 /// Reads the parameters from the front of a content. Returns `(rest, parameters)`.
 fn held<'a>(alloc: Global, content: &'a [u8]) -> X509Result<'a, RsaSsaPssParams<'a>>
     ensures exact { Gives (λ r. (pss_view r.1, r.0.now)) result (pss_parts_at content.now) }
+    ensures counted { IfOk result (λ r. IsCountedPss r.1) }
     ensures memory { IfErr result (WantsFor (HasPartBelow 2 content.now)) }
     ensures found { IfOk result (λ r. grammar.PssParts content.now (pss_view r.1) r.0.now) }
     ensures only { (v : values.RsaSsaPssParams) (left : List ℕ) → grammar.PssParts content.now v left
@@ -143,7 +146,8 @@ fn held<'a>(alloc: Global, content: &'a [u8]) -> X509Result<'a, RsaSsaPssParams<
 
 /// Reads the parameters in an element of tag number 16.
 fn pss_of<'a>(alloc: Global, any: Any<'a>) -> Result<RsaSsaPssParams<'a>, Refusal<X509Error>>
-    ensures { Gives pss_view result (parameters_of pss_parts_at (any_of any.entry)) }
+    ensures read { Gives pss_view result (parameters_of pss_parts_at (any_of any.entry)) }
+    ensures counted { IfOk result IsCountedPss }
 {
     let content = content_of(16, any)?;
     let (_, value) = parts(alloc, content)?;
@@ -154,7 +158,8 @@ fn value_of<'a>(
     alloc: Global,
     element: Element<'a>,
 ) -> Result<RsaSsaPssParams<'a>, Refusal<X509Error>>
-    ensures { Gives pss_view result (pss_in (piece_of element.entry)) }
+    ensures read { Gives pss_view result (pss_in (piece_of element.entry)) }
+    ensures counted { IfOk result IsCountedPss }
 {
     if !element.any.header.is_constructed() {
         return Err(Refusal::Error(X509Error::Der(Error::ConstructExpected)));
@@ -187,6 +192,7 @@ impl<'a> FromDer<'a, X509Error> for RsaSsaPssParams<'a> {
         ensures found { IfOk result (λ r. grammar.RsaSsaPssParams bytes.now (pss_view r.1) r.0.now) }
         ensures only { (v : values.RsaSsaPssParams) (rest : List ℕ) → grammar.RsaSsaPssParams bytes.now v rest
             → ElseMemory result (λ r. (pss_view r.1 ≡ v) × (r.0.now ≡ rest)) }
+        ensures counted { IfOk result (λ r. IsCountedPss r.1) }
     {
         value_at_front(alloc, bytes)
     }
@@ -194,6 +200,7 @@ impl<'a> FromDer<'a, X509Error> for RsaSsaPssParams<'a> {
 
 fn value_at_front<'a>(alloc: Global, i: &'a [u8]) -> X509Result<'a, RsaSsaPssParams<'a>>
     ensures exact { Gives (λ r. (pss_view r.1, r.0.now)) result (pss_at i.now) }
+    ensures counted { IfOk result (λ r. IsCountedPss r.1) }
     ensures missing { TellsMissing i.now result }
     ensures shorter { IfOk result (λ r. length r.0.now < length i.now) }
 {

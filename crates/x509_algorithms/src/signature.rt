@@ -8,7 +8,7 @@ ghost use Rattle.x509_algorithms.specs.Answers.{OkElseMemory, IsOrMemory, IsUnsi
 ghost use Rattle.x509_algorithms.specs.Parameters.{PssOf};
 ghost use Rattle.x509_algorithms.specs.Signatures.{IsPss, IsPlain, IsSignature};
 ghost use Rattle.x509_algorithms.specs.Values as values;
-ghost use Rattle.x509_algorithms.specs.View.{pss_view, signature_view};
+ghost use Rattle.x509_algorithms.specs.View.{IsCountedPss, IsCountedSignature, pss_view, signature_view};
 
 use crate::oaep::RsaAesOaepParams;
 use crate::pss::RsaSsaPssParams;
@@ -61,6 +61,7 @@ impl<'a> SignatureAlgorithm<'a> {
         alloc: Global,
         algorithm: &AlgorithmIdentifier<'a>,
     ) -> Result<SignatureAlgorithm<'a>, X509Error>
+        ensures counted { IfOk result IsCountedSignature }
         ensures found { IfOk result (λ s. IsSignature (algorithm_view algorithm.now) (signature_view s)) }
         ensures only { (v : values.SignatureAlgorithm) → IsSignature (algorithm_view algorithm.now) v
             → OkElseMemory result (λ s. signature_view s ≡ v) }
@@ -78,6 +79,7 @@ impl<'a> SignatureAlgorithm<'a> {
 
 /// The kind of an identifier without parameters.
 fn plain_kind<'a>(identifier: &Oid<'_>) -> Option<SignatureAlgorithm<'a>>
+    ensures counted { IfSome result IsCountedSignature }
     ensures found { IfSome result (λ s. IsPlain identifier.now (signature_view s)) }
     ensures only { (v : values.SignatureAlgorithm) → IsPlain identifier.now v → IsSomeAnd result (λ s. signature_view s ≡ v) }
 {
@@ -105,6 +107,7 @@ fn pss_kind<'a>(
     alloc: Global,
     algorithm: &AlgorithmIdentifier<'a>,
 ) -> Result<RsaSsaPssParams<'a>, X509Error>
+    ensures counted { IfOk result IsCountedPss }
     ensures found { IfOk result (λ p. IsPss (algorithm_view algorithm.now) (pss_view p)) }
     ensures only { (v : values.RsaSsaPssParams) → IsPss (algorithm_view algorithm.now) v → OkElseMemory result (λ p. pss_view p ≡ v) }
     ensures refused { IfErr result (IsUnsigned (algorithm_view algorithm.now)) }
@@ -120,6 +123,7 @@ fn pss_kind<'a>(
 
 /// Reads the parameters in an element.
 fn readable<'a>(alloc: Global, any: Any<'a>) -> Result<RsaSsaPssParams<'a>, X509Error>
+    ensures counted { IfOk result IsCountedPss }
     ensures found { IfOk result (λ p. PssOf (any_of any.entry) (pss_view p)) }
     ensures only { (v : values.RsaSsaPssParams) → PssOf (any_of any.entry) v → OkElseMemory result (λ p. pss_view p ≡ v) }
     ensures refused { IfErr result (IsOrMemory X509Error.InvalidSignatureValue) }

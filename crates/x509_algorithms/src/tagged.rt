@@ -1,12 +1,12 @@
 //! Optional fields of parameters, by their tag numbers.
 
-ghost use Rattle.std.specs.Prelude.{◌≡◌, List, ℕ, Some, IfErr, option_map};
+ghost use Rattle.std.specs.Prelude.{◌≡◌, List, ℕ, Some, IfOk, IfErr, IfSome, option_map};
 ghost use Rattle.asn1_any.specs.Views.{any_of};
 ghost use Rattle.asn1_core.specs.Views.{head_of};
 ghost use Rattle.x509_core.specs.Answers.{Gives};
 ghost use Rattle.x509_core.specs.Fronts.{TakesNoMemory};
 ghost use Rattle.x509_names.specs.Reading.{algorithm_at};
-ghost use Rattle.x509_names.specs.View.{algorithm_view};
+ghost use Rattle.x509_names.specs.View.{HasCountedParameters, algorithm_view};
 ghost use Rattle.x509_algorithms.specs.Answers.{HasPart, WantsFor};
 ghost use Rattle.x509_algorithms.specs.Reading.{tagged_content, tagged_at, inner_at, explicit_in, explicit_behind, explicit_content, explicit_by, number_at};
 
@@ -45,6 +45,7 @@ fn inner_algorithm<'a>(
     content: Option<&'a [u8]>,
 ) -> Result<Option<AlgorithmIdentifier<'a>>, Refusal<X509Error>>
     ensures read { Gives (option_map algorithm_view) result (inner_at algorithm_at (option_map (λ c. c.now) content.entry)) }
+    ensures counted { IfOk result (λ a. IfSome a HasCountedParameters) }
     ensures memory { IfErr result (WantsFor ((c : List ℕ) × (option_map (λ c. c.now) content.entry ≡ Some c))) }
 {
     let Some(content) = content else {
@@ -63,6 +64,7 @@ pub(crate) fn next_algorithm<'a>(
     i: &'a [u8],
 ) -> X509Result<'a, Option<AlgorithmIdentifier<'a>>>
     ensures read { Gives (λ r. (option_map algorithm_view r.1, r.0.now)) result (tagged_at tag algorithm_at i.now) }
+    ensures counted { IfOk result (λ r. IfSome r.1 HasCountedParameters) }
     ensures memory { IfErr result (WantsFor (HasPart tag i.now)) }
 {
     let (rest, content) = content_at_front(tag, i)?;
