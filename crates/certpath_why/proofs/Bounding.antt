@@ -12,12 +12,13 @@ use Rattle.cert_model.specs.Octets.{name_octets}
 use Rattle.cert_judge.specs.declared.items.CertificateItem.{CertificateItem}
 use Rattle.cert_judge.specs.declared.items.ReadItem.{ReadItem}
 use Rattle.cert_judge.specs.declared.items.ReadItem.TheVariants.{Certificate as certificate_read}
-use Rattle.cert_judge.specs.Items.{item_of, certificate_of, certificate_item}
+use Rattle.cert_judge.specs.Items.{item_of}
 use Rattle.cert_judge.specs.ItemGraph.{IsLink}
 use Rattle.cert_judge.specs.Revoking.{Item, JudgingContext}
 use Rattle.certpath_why.specs.Bounds.{IsCounted, IsHeldBack, IsBound}
 use Rattle.certpath_why.specs.Found.{IsMarked, AreMarked}
-use Rattle.certpath_why.specs.Reached.{HasSubject, ArePositions, IsFurther}
+use Rattle.certpath_why.specs.Held.{HoldsBack}
+use Rattle.certpath_why.specs.Reached.{ArePositions, IsFurther}
 use Rattle.certpath_why.proofs.Items.{at_read, with_read}
 
 -- ---- marks of the places with a property
@@ -45,36 +46,29 @@ first_more xs k lt u =
       ]),
     )
 
--- those of some places that have a property
-module _ (Q : ℕ → Type 0) (xs : List ℕ) where
-  pub among_none : (marks : List Bool) → AreMarked (λ u. Contains (take 0 xs) u × Q u) marks marks
-  among_none marks = marks_none (λ u. Contains (take 0 xs) u × Q u) marks (λ u p. omega (arith, p.0.1))
+-- those of some places
+module _ (xs : List ℕ) where
+  pub all_none : (marks : List Bool) → AreMarked (Contains (take 0 xs)) marks marks
+  all_none marks = marks_none (Contains (take 0 xs)) marks (λ u p. omega (arith, p.1))
 
-  pub among_same : (k : ℕ) (old new : List Bool) → k < length xs → (Q (get_or xs k 0) → ⊥) → AreMarked (λ u. Contains (take k xs) u × Q u) old new → AreMarked (λ u. Contains (take (k + 1) xs) u × Q u) old new
-  among_same k old new lt never h = marks_as (λ u. Contains (take k xs) u × Q u) (λ u. Contains (take (k + 1) xs) u × Q u) old new (λ u.
-      let more = first_more xs k lt u in (
-        λ p. (more.1 (inl p.0), p.1),
-        λ p. elim (more.0 p.0) [ inl c ↦ (c, p.1) | inr e ↦ absurd (never (subst Q (sym e) p.1)) ],
-      )) h
-
-  pub among_more : (k : ℕ) (old new last : List Bool) → k < length xs → Q (get_or xs k 0) → AreMarked (λ u. Contains (take k xs) u × Q u) old new
-      → length last ≡ length new → ((u : ℕ) → IsMarked last u ↔ (IsMarked new u ⊎ (u ≡ get_or xs k 0))) → AreMarked (λ u. Contains (take (k + 1) xs) u × Q u) old last
-  among_more k old new last lt is h count put = record {
+  pub all_more : (k : ℕ) (old new last : List Bool) → k < length xs → AreMarked (Contains (take k xs)) old new
+      → length last ≡ length new → ((u : ℕ) → IsMarked last u ↔ (IsMarked new u ⊎ (u ≡ get_or xs k 0))) → AreMarked (Contains (take (k + 1) xs)) old last
+  all_more k old new last lt h count put = record {
     count = count ∙ h.count;
     exact = λ u. let more = first_more xs k lt u in (
       λ m. elim ((put u).0 m) [
-        | inl there ↦ elim ((h.exact u).0 there) [ inl was ↦ inl was | inr p ↦ inr (more.1 (inl p.0), p.1) ]
-        | inr e ↦ inr (more.1 (inr (sym e)), subst Q (sym e) is)
+        | inl there ↦ elim ((h.exact u).0 there) [ inl was ↦ inl was | inr p ↦ inr (more.1 (inl p)) ]
+        | inr e ↦ inr (more.1 (inr (sym e)))
       ],
       λ s. (put u).1 (elim s [
         | inl was ↦ inl ((h.exact u).1 (inl was))
-        | inr p ↦ elim (more.0 p.0) [ inl c ↦ inl ((h.exact u).1 (inr (c, p.1))) | inr e ↦ inr (sym e) ]
+        | inr p ↦ elim (more.0 p) [ inl c ↦ inl ((h.exact u).1 (inr c)) | inr e ↦ inr (sym e) ]
       ]),
     );
   }
 
-  pub among_all : (k : ℕ) (old new : List Bool) → length xs ≤ k → AreMarked (λ u. Contains (take k xs) u × Q u) old new → AreMarked (λ u. Contains xs u × Q u) old new
-  among_all k old new le h = subst (λ l. AreMarked (λ u. Contains l u × Q u) old new) (take_all k xs le) h
+  pub all_whole : (k : ℕ) (old new : List Bool) → length xs ≤ k → AreMarked (Contains (take k xs)) old new → AreMarked (Contains xs) old new
+  all_whole k old new le h = subst (λ l. AreMarked (Contains l) old new) (take_all k xs le) h
 
 -- those that are related to one of some places
 module _ (R : ℕ → ℕ → Type 0) (ws : List ℕ) where
@@ -122,32 +116,19 @@ pub not_counted : (r : JudgingContext) (items : List ReadItem) (reach : ℕ → 
     → (v : ℕ) → IsHeldBack r (map item_of items) reach w v → ⊥
 not_counted r items reach w x at never v h = never ((counted_iff items w x at).1 h.counts)
 
-pub held_iff : (r : JudgingContext) (read : List ReadItem) (reach : ℕ → Reach) (w : ℕ) (x : CertificateItem) (issuers : List ℕ) → IsAt read w (λ y. y ≡ certificate_read x) → reach w ≡ No → (x.subject.now ≢ x.issuer.now)
-    → ((v : ℕ) → IsAt (map item_of read) v (IsLink r (map item_of read) (certificate_item x)) → Contains issuers v)
-    → (v : ℕ) → (Contains issuers v × ((reach v ≡ UpTo 0) × IsAt (map item_of read) v (IsLink r (map item_of read) (certificate_item x)))) ↔ IsHeldBack r (map item_of read) reach w v
-held_iff r read reach w x issuers at nowhere counts there v =
+pub held_iff : (r : JudgingContext) (read : List ReadItem) (reach : ℕ → Reach) (w : ℕ) (x : CertificateItem) → IsAt read w (λ y. y ≡ certificate_read x) → reach w ≡ No → (x.subject.now ≢ x.issuer.now)
+    → (v : ℕ) → HoldsBack r (map item_of read) reach x v ↔ IsHeldBack r (map item_of read) reach w v
+held_iff r read reach w x at nowhere counts v =
     let items = map item_of read in
     let linked = at_read (λ z. IsAt items v (IsLink r items z)) read w x at in (
       λ p. record {
         leads_nowhere = nowhere;
         counts = (counted_iff read w x at).0 counts;
-        linked = linked.0 p.1.1;
-        bounded = p.1.0;
+        linked = linked.0 p.1;
+        bounded = p.0;
       },
-      λ h.
-          let l = linked.1 h.linked in
-          (there v l, (h.bounded, l)),
+      λ h. (h.bounded, linked.1 h.linked),
     )
-
--- whether the code finds no reason against a link
-pub link_there : (r : JudgingContext) (read : List ReadItem) (x y : CertificateItem) (v : ℕ) (none : Type 0) → IsAt read v (λ z. z ≡ certificate_read y) → HasSubject (map item_of read) x.issuer.now v
-    → (x.issuer.now ≡ y.subject.now → none ↔ IsLink r (map item_of read) (certificate_item x) (certificate_item y)) → none ↔ IsAt (map item_of read) v (IsLink r (map item_of read) (certificate_item x))
-link_there r read x y v none at named iff =
-    let items = map item_of read in
-    let subject : name_octets (certificate_of y).subject ≡ x.issuer.now = (with_read (λ d. name_octets d.subject ≡ x.issuer.now) read v y at).1 named in
-    let link = iff (sym (y.subject_is ∙ subject)) in
-    let there = at_read (IsLink r items (certificate_item x)) read v y at in
-    (λ n. there.0 (link.0 n), λ l. link.1 (there.1 l))
 
 pub bound_iff : (r : JudgingContext) (items : List Item) (target : ℕ) (reach : ℕ → Reach) (marks : List Bool) (further : List ℕ) → ArePositions (IsFurther items target) further
     → ((v : ℕ) → IsMarked marks v ↔ ((w : ℕ) × Contains further w × IsHeldBack r items reach w v)) → (v : ℕ) → (IsMarked marks v × (v ≢ target)) ↔ IsBound r items target reach v

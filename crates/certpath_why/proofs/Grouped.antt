@@ -1,6 +1,6 @@
 -- Links of one certificate, brought together by what is said of them.
 use Rattle.std.specs.Prelude.{◌↔◌}
-use Rattle.std.proofs.Common.{◌≡◌, ◌∙◌, ap, sym, subst, refl, ℕ, ◌<◌, List, length, map, get_or, Some}
+use Rattle.std.proofs.Common.{◌≡◌, ◌∙◌, ap, sym, subst, ℕ, ◌<◌, List, length, map, get_or, Some}
 use Rattle.std.specs.List.{Contains}
 use Rattle.cert_graph.specs.Entries.{IsAt}
 use Rattle.cert_model.specs.Class.{certificate}
@@ -9,9 +9,9 @@ use Rattle.cert_model.specs.Octets.{name_octets, key_octets}
 use Rattle.cert_judge.specs.declared.items.CertificateItem.{CertificateItem}
 use Rattle.cert_judge.specs.declared.items.ReadItem.{ReadItem}
 use Rattle.cert_judge.specs.Items.{certificate_of, certificate_item, item_of}
-use Rattle.cert_judge.specs.ItemGraph.{IsCertificateWith, IsLink}
-use Rattle.cert_judge.specs.Revoking.{Item, JudgingContext}
-use Rattle.cert_judge.proofs.Grouping.{element, one_certificate}
+use Rattle.cert_judge.specs.ItemGraph.{IsCertificateWith}
+use Rattle.cert_judge.specs.Revoking.{Item}
+use Rattle.cert_judge.proofs.Grouping.{element}
 use Rattle.cert_judge.proofs.Linking.{with_iff}
 use Rattle.cert_reasons.proofs.Marks.{there_at}
 use Rattle.certpath_why.specs.declared.cuts.Cut.{Cut}
@@ -42,17 +42,6 @@ cert_iff items w y d lt at is P =
 -- whoever signed has the issuer's name
 pub signed_named : (V : List ℕ → List ℕ → Type 0) (others : List Item) (x : CertificateItem) (w : ℕ) → IsSignedBy V others (certificate_item x) w → HasSubject others x.issuer.now w
 signed_named V others x w s = (s.0, λ e. let p = s.1 e in (p.0, p.1, sym (x.issuer_is ∙ held p.2.0)))
-
--- whoever it is linked to signed
-pub linked_signed : (r : JudgingContext) (items : List Item) (x : CertificateItem) (w : ℕ) → IsAt items w (IsLink r items (certificate_item x)) → IsSignedBy r.Vouches items (certificate_item x) w
-linked_signed r items x w h = (
-  h.0,
-  λ e.
-      let p = h.1 e in
-      let q = p.2 in
-      let same : certificate_of x ≡ p.0 = one_certificate (certificate_item x).class (certificate_of x) p.0 refl p.1 in
-      (q.0, q.1, (ap Some (subst (λ (c : Certificate). name_octets c.issuer ≡ name_octets q.0.subject) (sym same) q.2.0.issuer), q.2.0.vouched)),
-)
 
 -- whoever signed by less, signed by more
 pub signed_less : (S V : List ℕ → List ℕ → Type 0) (others : List Item) (x : Item) (w : ℕ) → ((key item : List ℕ) → S key item → V key item) → IsSignedBy S others x w → IsSignedBy V others x w

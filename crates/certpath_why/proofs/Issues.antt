@@ -232,3 +232,25 @@ module _ (items : List ReadItem) (x : CertificateItem) (under : Issuers) (are : 
           | inr o ↦ Contains-append_left agreeing under.bare.items w ((own.exact w).1 (l.0, o))
         ])),
       )) h
+
+  -- with those that have no key identifier, those of the one that is named are all
+  pub all_named : (all : List ℕ) → x.authority_key_id ≡ None → all ≡ under.places.items → (w : ℕ) → (Contains all w ⊎ Contains under.bare.items w) ↔ Linked w
+  all_named all none is w =
+      let agrees : Contains under.places.items w → Linked w = λ c.
+      let y = certificate_there items w (certs w c) in
+      (c, (with_read (λ d. KeyIdsAgree (certificate_of x) d) items w y.0 y.1).0 (none_named (certificate_of x) (certificate_of y.0) (names_none x none))) in (
+        λ s. elim s [ inl c ↦ agrees (subst (λ l. Contains l w) is c) | inr b ↦ agrees ((are.bare.exact w).0 b).0 ],
+        λ l. inl (subst (λ k. Contains k w) (sym is) l.0),
+      )
+
+  pub some_named : (id : Bor (List ℕ)) (named : List ℕ) → x.authority_key_id ≡ Some id → ArePositions (λ w. Contains under.places.items w × IsOwnId items id.now w) named → (w : ℕ) → (Contains named w ⊎ Contains under.bare.items w) ↔ Linked w
+  some_named id named names own w = (
+    λ s. elim s [
+      | inl a ↦ let o = (own.exact w).0 a in (o.0, (agreeing_iff items x id w names (certs w o.0)).0 (inr o.1))
+      | inr b ↦ let n = (are.bare.exact w).0 b in (n.0, (agreeing_iff items x id w names (certs w n.0)).0 (inl n.1))
+    ],
+    λ l. elim ((agreeing_iff items x id w names (certs w l.0)).1 l.1) [
+      | inl n ↦ inr ((are.bare.exact w).1 (l.0, n))
+      | inr o ↦ inl ((own.exact w).1 (l.0, o))
+    ],
+  )

@@ -32,6 +32,7 @@ mod Numbering
 mod Alike
 mod Tailing
 mod Searching
+mod Backing
 mod Keeping
 mod Using
 mod Writing

@@ -2,28 +2,32 @@
 
 ghost use Rattle.std.specs.Prelude.{◌≡◌, ◌≢◌, ◌↔◌, ◌++◌, ◌<◌, ℕ, List, [], length, map, Contains, IfOk, IfSome, OnOk, IsTrue, string_bytes};
 ghost use Rattle.std.specs.List.{flat_map};
+ghost use Rattle.std.specs.List.Sorted.{IsStrictlyIncreasing};
 ghost use Rattle.cert_graph.specs.Entries.{IsAt};
 ghost use Rattle.cert_graph.specs.declared.reach.Reach.TheVariants.{No, UpTo};
-ghost use Rattle.cert_judge.specs.ItemGraph.{IsLink};
-ghost use Rattle.cert_judge.specs.Items.{certificate_item, rules_by};
+ghost use Rattle.cert_judge.specs.Items.{rules_by};
+ghost use Rattle.cert_judge.specs.declared.items.ReadItem.TheVariants.{Certificate as certificate_read};
 ghost use Rattle.cert_reasons.specs.Linking.{HasItsLists};
 ghost use Rattle.certpath_why.specs.Bounds.{reach_by, IsHeldBack, IsBound};
 ghost use Rattle.certpath_why.specs.Found.{AreMarked, IsFound, IsMarked};
-ghost use Rattle.certpath_why.specs.Held.{AreDone, AreSearchFirsts};
+ghost use Rattle.certpath_why.specs.Held.{search_rules, AreBareMarked, AreGroupsKept, AreSearchFirsts, HoldsBack, IsHeld, MayHoldBack};
 ghost use Rattle.certpath_why.specs.Lines.{reach_lines};
+ghost use Rattle.certpath_why.specs.Named.{AreGathered};
 ghost use Rattle.certpath_why.specs.Question.{items_in, link_items, link_rules, IsListed, IsSigned};
 ghost use Rattle.certpath_why.specs.Reached.{ArePositions, HasSubject, IsCertificateAt, IsFurther};
 
 use crate::found::certificate_at;
-use crate::kinds::held_kind;
-use crate::marks::{marked_but, no_marks, put_mark};
+use crate::issuing::named_among;
+use crate::kinds::{held_group, held_kind};
+use crate::marks::{mark_all, marked_but, no_marks};
+use crate::named::Issuers;
 use crate::question::Question;
 use crate::signers::{firsts_by, issuers_at};
 use cert_graph::{Answer, Reach};
 use cert_judge::{CertificateItem, Vouch};
 use cert_reasons::{Linking, Unlinked};
 use std::alloc::{AllocError, Global};
-use std::collections::BTreeSet;
+use std::collections::{BTreeMap, BTreeSet};
 
 /// How far the issuer at a position leads by an answer's row, if there is no path.
 fn reach_in(answer: &Answer, place: usize) -> Reach
@@ -83,9 +87,9 @@ fn is_none(reasons: &[Unlinked]) -> bool
     reasons.is_empty()
 }
 
-/// Whether a certificate is linked to an issuer of its issuer's name, which leads to an anchor, but
-/// with nothing counted below it.
-fn is_held_back<V: Vouch>(
+/// Whether a certificate was issued under the name and key of an issuer of its issuer's name, and
+/// that leads to an anchor, but with nothing counted below it.
+fn may_hold_back<V: Vouch>(
     alloc: Global,
     answer: &Answer,
     linking: &Linking<'_, '_>,
@@ -94,8 +98,7 @@ fn is_held_back<V: Vouch>(
 ) -> Result<bool, AllocError>
     requires lists { HasItsLists linking.now }
     requires subject { HasSubject (link_items linking.now) linking.now.certificate.now.issuer.now issuer }
-    ensures { IfOk result (λ held. IsTrue held ↔ ((reach_by answer.now issuer ≡ UpTo 0)
-        × IsAt (link_items linking.now) issuer (IsLink (link_rules V.Vouch linking.now vouch.now) (link_items linking.now) (certificate_item linking.now.certificate.now)))) }
+    ensures { IfOk result (λ may. IsTrue may ↔ MayHoldBack (link_rules V.Vouch linking.now vouch.now) (link_items linking.now) (reach_by answer.now) linking.now.certificate.now issuer) }
 {
     if !takes_none_below(reach_in(answer, issuer)) {
         return Ok(false);
@@ -103,64 +106,162 @@ fn is_held_back<V: Vouch>(
     let Some(item) = certificate_at(linking.items(), issuer) else {
         return Ok(false);
     };
-    let reasons = linking.why_unlinked(alloc, item, vouch)?;
+    let reasons = linking.why_unlinked_to_anchor(alloc, item, vouch)?;
     Ok(is_none(&reasons))
 }
 
-/// Marks those of some issuers of its issuer's name from which a path length holds a certificate
-/// back.
-fn mark_among<V: Vouch>(
-    marks: &mut Vec<bool>,
+/// Those of some issuers of its issuer's name whose path length may hold a certificate back,
+/// whatever key identifier it names. It costs a step for each, and a look-up of vouchers for each
+/// that leads to an anchor with nothing counted below it.
+fn holding_among<V: Vouch>(
     alloc: Global,
     answer: &Answer,
     linking: &Linking<'_, '_>,
     issuers: &[usize],
     vouch: &V,
-) -> Result<(), AllocError>
+) -> Result<Vec<usize>, AllocError>
     requires lists { HasItsLists linking.now }
     requires issuers { (w : ℕ) → Contains issuers.now w → HasSubject (link_items linking.now) linking.now.certificate.now.issuer.now w }
-    requires count { length marks.now.items ≡ length linking.now.items.now }
-    ensures { OnOk result (AreMarked (λ v. Contains issuers.now v × ((reach_by answer.now v ≡ UpTo 0)
-        × IsAt (link_items linking.now) v (IsLink (link_rules V.Vouch linking.now vouch.now) (link_items linking.now) (certificate_item linking.now.certificate.now)))) marks.old.items marks.new.items) }
+    requires ascends { IsStrictlyIncreasing issuers.now }
+    ensures { IfOk result (λ found. ArePositions (λ v. Contains issuers.now v
+        × MayHoldBack (link_rules V.Vouch linking.now vouch.now) (link_items linking.now) (reach_by answer.now) linking.now.certificate.now v) found.items) }
 {
+    let mut found = Vec::new(alloc);
     for issuer in issuers {
-        let held = is_held_back(alloc, answer, linking, *issuer, vouch)?;
-        if !held {
+        let may = may_hold_back(alloc, answer, linking, *issuer, vouch)?;
+        if !may {
             continue;
         }
-        put_mark(marks, *issuer);
+        found.push(*issuer)?;
     }
+    Ok(found)
+}
+
+/// A search that found no path.
+#[derive(Clone, Copy)]
+pub(crate) struct Searched<'s, S> {
+    /// Which key vouches for which item in it.
+    pub(crate) vouch: &'s S,
+    /// For each number of octets the first for which the keys of the same certificates vouch in it.
+    pub(crate) firsts: &'s [usize],
+    /// What it found.
+    pub(crate) answer: &'s Answer,
+}
+
+/// The issuers whose path length may hold back the certificate at a position, whatever key
+/// identifier it names, by the relation of the answer, which vouches for less: only whoever signed
+/// it can be linked. It costs a step for each of these, and a sort of the key identifiers.
+fn holding_of<'a, V: Vouch, S: Vouch>(
+    alloc: Global,
+    question: &Question<'_, 'a, V>,
+    searched: &Searched<'_, S>,
+    place: usize,
+    certificate: &CertificateItem<'a>,
+    linking: &Linking<'_, '_>,
+) -> Result<Issuers<'a>, AllocError>
+    requires signed { IsSigned V.Vouch question.now }
+    requires less { (key item : List ℕ) → (S.vouches_for searched.now.vouch.now).Vouches key item → (V.vouches_for question.now.vouch.now).Vouches key item }
+    requires at { IsAt question.now.found.now.items.now place (λ x. x ≡ certificate_read certificate.now) }
+    requires lists { HasItsLists linking.now }
+    requires items { linking.now.items.now ≡ question.now.found.now.items.now }
+    requires certificate { linking.now.certificate.now ≡ certificate.now }
+    requires policy { linking.now.policy ≡ question.now.policy.now }
+    ensures { IfOk result (AreGathered question.now.found.now.items.now
+        (MayHoldBack (search_rules question.now (S.vouches_for searched.now.vouch.now)) (items_in question.now) (reach_by searched.now.answer.now) certificate.now)) }
+{
+    let signers = issuers_at(alloc, question, place, certificate.issuer)?;
+    let holding = holding_among(alloc, searched.answer, linking, &signers, searched.vouch)?;
+    let under = Issuers::new(alloc, question.found.items, &holding)?;
+    Ok(under)
+}
+
+/// What was worked out for the certificates that path lengths hold back.
+#[derive(Drop)]
+pub(crate) struct Held<'a> {
+    /// The kinds of those that are done.
+    pub(crate) done: BTreeSet<Vec<usize>>,
+    /// The issuers whose path length may hold a certificate back, by its kind but for the key
+    /// identifier that it names. Those without a key identifier are marked.
+    pub(crate) groups: BTreeMap<Vec<usize>, Issuers<'a>>,
+}
+
+/// Marks the issuers from which a path length holds a certificate back, if that counts and leads
+/// nowhere. They are brought together once for all certificates whose kinds differ in the key
+/// identifier alone; then it costs a step for each that is marked.
+fn mark_among<'a, V: Vouch, S: Vouch>(
+    marks: &mut Vec<bool>,
+    groups: &mut BTreeMap<Vec<usize>, Issuers<'a>>,
+    alloc: Global,
+    question: &Question<'_, 'a, V>,
+    searched: &Searched<'_, S>,
+    place: usize,
+    certificate: &CertificateItem<'a>,
+    linking: &Linking<'_, '_>,
+    first: usize,
+) -> Result<(), AllocError>
+    requires groups { AreGroupsKept question.now (S.vouches_for searched.now.vouch.now) searched.now.firsts.now (reach_by searched.now.answer.now) groups.old }
+    requires bare { AreBareMarked groups.old marks.old.items }
+    requires signed { IsSigned V.Vouch question.now }
+    requires less { (key item : List ℕ) → (S.vouches_for searched.now.vouch.now).Vouches key item → (V.vouches_for question.now.vouch.now).Vouches key item }
+    requires firsts { AreSearchFirsts question.now (S.vouches_for searched.now.vouch.now) searched.now.firsts.now }
+    requires at { IsAt question.now.found.now.items.now place (λ x. x ≡ certificate_read certificate.now) }
+    requires lists { HasItsLists linking.now }
+    requires items { linking.now.items.now ≡ question.now.found.now.items.now }
+    requires certificate { linking.now.certificate.now ≡ certificate.now }
+    requires policy { linking.now.policy ≡ question.now.policy.now }
+    requires first { HasSubject (items_in question.now) certificate.now.issuer.now first }
+    requires count { length marks.now.items ≡ length question.now.found.now.items.now }
+    ensures groups { OnOk result (AreGroupsKept question.now (S.vouches_for searched.now.vouch.now) searched.now.firsts.now (reach_by searched.now.answer.now) groups.new) }
+    ensures bare { OnOk result (AreBareMarked groups.new marks.new.items) }
+    ensures marks { OnOk result (AreMarked (HoldsBack (search_rules question.now (S.vouches_for searched.now.vouch.now)) (items_in question.now) (reach_by searched.now.answer.now) certificate.now) marks.old.items marks.new.items) }
+{
+    let kind = held_group(
+        alloc,
+        question,
+        searched.firsts,
+        place,
+        certificate,
+        linking,
+        first,
+    )?;
+    if let Some(under) = groups.get(&kind) {
+        let named = named_among(alloc, certificate, under)?;
+        mark_all(marks, &named);
+        return Ok(());
+    }
+    let under = holding_of(alloc, question, searched, place, certificate, linking)?;
+    let named = named_among(alloc, certificate, &under)?;
+    mark_all(marks, &under.bare);
+    mark_all(marks, &named);
+    groups.insert(kind, under)?;
     Ok(())
 }
 
 /// Marks the issuers from which a path length holds back the certificate at a position, by the
-/// relation of the answer, which vouches for less: only whoever signed it can be linked. Of kinds
-/// that are done they are marked already.
-fn mark_from<V: Vouch, S: Vouch>(
+/// relation of the answer. Of kinds that are done they are marked already.
+fn mark_from<'a, V: Vouch, S: Vouch>(
     marks: &mut Vec<bool>,
-    done: &mut BTreeSet<Vec<usize>>,
+    held: &mut Held<'a>,
     alloc: Global,
-    question: &Question<'_, '_, V>,
-    search: &S,
-    firsts: &[usize],
-    answer: &Answer,
+    question: &Question<'_, 'a, V>,
+    searched: &Searched<'_, S>,
     place: usize,
 ) -> Result<(), AllocError>
     requires known { IsFound question.now.found.now }
     requires signed { IsSigned V.Vouch question.now }
     requires listed { IsListed question.now }
-    requires less { (key item : List ℕ) → (S.vouches_for search.now).Vouches key item → (V.vouches_for question.now.vouch.now).Vouches key item }
+    requires less { (key item : List ℕ) → (S.vouches_for searched.now.vouch.now).Vouches key item → (V.vouches_for question.now.vouch.now).Vouches key item }
     requires certificate { IsCertificateAt (items_in question.now) place }
-    requires firsts { AreSearchFirsts question.now (S.vouches_for search.now) firsts.now }
-    requires done { AreDone question.now (S.vouches_for search.now) firsts.now (reach_by answer.now) done.old marks.old.items }
+    requires firsts { AreSearchFirsts question.now (S.vouches_for searched.now.vouch.now) searched.now.firsts.now }
+    requires held { IsHeld question.now (S.vouches_for searched.now.vouch.now) searched.now.firsts.now (reach_by searched.now.answer.now) held.old marks.old.items }
     requires count { length marks.now.items ≡ length question.now.found.now.items.now }
-    ensures done { OnOk result (AreDone question.now (S.vouches_for search.now) firsts.now (reach_by answer.now) done.new marks.new.items) }
-    ensures marks { OnOk result (AreMarked (IsHeldBack (rules_by question.now.policy.now.moment question.now.policy.now.demand_lists (S.vouches_for search.now)) (items_in question.now) (reach_by answer.now) place) marks.old.items marks.new.items) }
+    ensures held { OnOk result (IsHeld question.now (S.vouches_for searched.now.vouch.now) searched.now.firsts.now (reach_by searched.now.answer.now) held.new marks.new.items) }
+    ensures marks { OnOk result (AreMarked (IsHeldBack (rules_by question.now.policy.now.moment question.now.policy.now.demand_lists (S.vouches_for searched.now.vouch.now)) (items_in question.now) (reach_by searched.now.answer.now) place) marks.old.items marks.new.items) }
 {
     let Some(certificate) = certificate_at(question.found.items, place) else {
         return Ok(());
     };
-    if !leads_nowhere(reach_in(answer, place)) {
+    if !leads_nowhere(reach_in(searched.answer, place)) {
         return Ok(());
     }
     if !is_counted(certificate) {
@@ -174,18 +275,27 @@ fn mark_from<V: Vouch, S: Vouch>(
     let kind = held_kind(
         alloc,
         question,
-        firsts,
+        searched.firsts,
         place,
         certificate,
         &linking,
         *first,
     )?;
-    if done.contains(&kind) {
+    if held.done.contains(&kind) {
         return Ok(());
     }
-    let signers = issuers_at(alloc, question, place, certificate.issuer)?;
-    mark_among(marks, alloc, answer, &linking, &signers, search)?;
-    done.insert(kind)?;
+    mark_among(
+        marks,
+        &mut held.groups,
+        alloc,
+        question,
+        searched,
+        place,
+        certificate,
+        &linking,
+        *first,
+    )?;
+    held.done.insert(kind)?;
     Ok(())
 }
 
@@ -210,11 +320,17 @@ fn bound_marks<V: Vouch, S: Vouch>(
         return Ok(marks);
     }
     let firsts = firsts_by(alloc, question, search)?;
-    let mut done = BTreeSet::new(alloc);
+    let searched = Searched {
+        vouch: search,
+        firsts: &firsts,
+        answer,
+    };
+    let mut held = Held {
+        done: BTreeSet::new(alloc),
+        groups: BTreeMap::new(alloc),
+    };
     for place in further {
-        mark_from(
-            &mut marks, &mut done, alloc, question, search, &firsts, answer, *place,
-        )?;
+        mark_from(&mut marks, &mut held, alloc, question, &searched, *place)?;
     }
     Ok(marks)
 }

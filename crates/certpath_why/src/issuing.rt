@@ -1,7 +1,7 @@
 //! Under whose names and keys certificates were issued, but for key identifiers: worked out once for
 //! those that the same keys vouch for and the same lists revoke (RFC 5280, 6.1.3, a).
 
-ghost use Rattle.std.specs.Prelude.{◌≡◌, ◌↔◌, ℕ, List, [], Contains, IfOk, IsTrue, OnOk, map};
+ghost use Rattle.std.specs.Prelude.{◌≡◌, ◌↔◌, ◌⊎◌, ℕ, List, [], Contains, IfOk, IsTrue, OnOk, map};
 ghost use Rattle.cert_graph.specs.Entries.{IsAt};
 ghost use Rattle.cert_judge.specs.Items.{item_of};
 ghost use Rattle.cert_judge.specs.declared.items.ReadItem.{ReadItem};
@@ -106,4 +106,24 @@ pub(crate) fn linked_among<'a>(
     put_in_order(&mut agreeing)?;
     let linked = cut_of(alloc, &agreeing)?;
     Ok(linked)
+}
+
+/// Of certificates under whose names and keys one was issued, those that have the key identifier
+/// that it names; all, if it names none (RFC 5280, 4.2.1.1). Together with those that have none,
+/// they are all to which it is linked. It costs a step for each.
+pub(crate) fn named_among<'a>(
+    alloc: Global,
+    certificate: &CertificateItem<'a>,
+    under: &Issuers<'a>,
+) -> Result<Vec<usize>, AllocError>
+    ensures { (items : List ReadItem) → AreGathered items (Contains under.now.places.items) under.now → ((w : ℕ) → Contains under.now.places.items w → IsCertificateAt (map item_of items) w)
+        → IfOk result (λ named. (w : ℕ) → (Contains named.items w ⊎ Contains under.now.bare.items w) ↔ (Contains under.now.places.items w × AgreesAt (map item_of items) certificate.now w)) }
+{
+    let Some(id) = certificate.authority_key_id else {
+        let mut all = Vec::new(alloc);
+        all.extend_from_slice(&under.places)?;
+        return Ok(all);
+    };
+    let named = under.with_id(alloc, id)?;
+    Ok(named)
 }

@@ -169,3 +169,27 @@ pub(crate) fn held_kind<V: Vouch>(
     let kind = kind_of(alloc, first, signed, revoking, id)?;
     Ok(kind)
 }
+
+/// The kind of the certificate at a position, by its links to certificates as a search has them,
+/// whatever key identifier it names.
+pub(crate) fn held_group<V: Vouch>(
+    alloc: Global,
+    question: &Question<'_, '_, V>,
+    firsts: &[usize],
+    place: usize,
+    certificate: &CertificateItem<'_>,
+    linking: &Linking<'_, '_>,
+    first: usize,
+) -> Result<Vec<usize>, AllocError>
+    requires lists { HasItsLists linking.now }
+    requires certificate { linking.now.certificate.now ≡ certificate.now }
+    requires place { place < length question.now.signers.now.classes.numbers.items }
+    requires number { slice_index_or question.now.signers.now.classes.numbers.items place 0 < length firsts.now }
+    requires first { HasSubject (items_in question.now) certificate.now.issuer.now first }
+    ensures { IfOk result (λ kind. IsKind linking.now.items.now (items_in question.now) linking.now.policy.moment question.now.signers.now.classes firsts.now None place certificate.now kind.items) }
+{
+    let shared = question.signers.classes.number_by(firsts, place);
+    let revoking = linking.revoking();
+    let kind = kind_of(alloc, first, shared, revoking, None)?;
+    Ok(kind)
+}

@@ -1,7 +1,7 @@
 //! One mark for each position of a list of items: whether it was reached, or prevents a path.
 
-ghost use Rattle.std.specs.Prelude.{◌≡◌, ◌≢◌, ◌↔◌, ◌<◌, ◌⊎◌, ℕ, length, IfOk, IsTrue};
-ghost use Rattle.certpath_why.specs.Found.{IsMarked};
+ghost use Rattle.std.specs.Prelude.{◌≡◌, ◌≢◌, ◌↔◌, ◌<◌, ◌⊎◌, ℕ, length, Contains, IfOk, IsTrue};
+ghost use Rattle.certpath_why.specs.Found.{AreMarked, IsMarked};
 ghost use Rattle.certpath_why.specs.Reached.{ArePositions};
 
 use std::alloc::{AllocError, Global};
@@ -35,6 +35,16 @@ pub(crate) fn put_mark(marks: &mut Vec<bool>, place: usize)
     ensures exact { (u : ℕ) → IsMarked marks.new.items u ↔ (IsMarked marks.old.items u ⊎ (u ≡ place)) }
 {
     marks[place] = true;
+}
+
+/// Marks some positions: a step for each.
+pub(crate) fn mark_all(marks: &mut Vec<bool>, places: &[usize])
+    requires { (u : ℕ) → Contains places.now u → u < length marks.now.items }
+    ensures { AreMarked (Contains places.now) marks.old.items marks.new.items }
+{
+    for place in places {
+        put_mark(marks, *place);
+    }
 }
 
 /// Whether a position is marked, and isn't the one that is left out.

@@ -5,8 +5,12 @@ use Rattle.cert_judge.specs.Items.{item_of, rules_by}
 use Rattle.cert_judge.proofs.Mapped.{not_both}
 use Rattle.certpath_why.specs.Question.{items_in}
 use Rattle.certpath_why.specs.Bounds.{reach_by, IsHeldBack}
+use Rattle.certpath_why.specs.Held.{search_rules, IsSearchGroup, MayHoldBack}
+use Rattle.certpath_why.specs.Named.{AreGathered}
+use Rattle.certpath_why.proofs.Backing.{bare_none}
 use Rattle.certpath_why.proofs.Bounding.{no_bound, of_none, of_more, of_all}
 use Rattle.certpath_why.proofs.Searching.{none_done}
+use Rattle.certpath_why.proofs.Tailing.{written_none}
 use Rattle.certpath_why.proofs.Spreading.{further_certificate}
 use Rattle.certpath_why.proofs.bounds.bound_marks.Goals as goal
 
@@ -22,11 +26,24 @@ returns-then-not-has_bound g c =
 pub mark_from-requires-clause-firsts : goal.mark_from-requires-clause-firsts
 mark_from-requires-clause-firsts g c = rw c.deref.ensures.value c.in_ok-firsts.ensures
 
-pub mark_from-requires-clause-done : goal.mark_from-requires-clause-done
-mark_from-requires-clause-done g c = rw c.deref.ensures.value c.loop-place.invariant.0
+pub mark_from-requires-clause-held : goal.mark_from-requires-clause-held
+mark_from-requires-clause-held g c = c.loop-place.invariant.0
 
 pub loop-place-init : goal.loop-place-init
-loop-place-init g c = (none_done c.args.question.now (g.S.Vouch.vouches_for c.args.search.now) c.in_ok-firsts.firsts.items (reach_by c.args.answer.now) c.new-done.result c.in_ok-marks.marks.items c.new-done.ensures.empty, of_none (IsHeldBack (rules_by c.args.question.now.policy.now.moment c.args.question.now.policy.now.demand_lists (g.S.Vouch.vouches_for c.args.search.now)) (items_in c.args.question.now) (reach_by c.args.answer.now)) c.args.further.now c.in_ok-marks.marks.items)
+loop-place-init g c =
+    let q = c.args.question.now in
+    let V = g.S.Vouch.vouches_for c.args.search.now in
+    let xs = q.found.now.items.now in
+    let firsts = c.deref.result.now in
+    let reach = reach_by c.args.answer.now in
+    let r = rules_by q.policy.now.moment q.policy.now.demand_lists V in (
+      record {
+        done = none_done q V firsts reach c.new.result c.in_ok-marks.marks.items c.new.ensures.empty;
+        groups = written_none xs (IsSearchGroup q firsts) (λ y. AreGathered xs (MayHoldBack (search_rules q V) (items_in q) reach y)) c.new-2.result c.new-2.ensures.empty;
+        bare = bare_none c.new-2.result c.in_ok-marks.marks.items c.new-2.ensures.empty;
+      },
+      of_none (IsHeldBack r (items_in q) reach) c.args.further.now c.in_ok-marks.marks.items,
+    )
 
 pub mark_from-requires-clause-certificate : goal.mark_from-requires-clause-certificate
 mark_from-requires-clause-certificate g c =
@@ -40,7 +57,7 @@ mark_from-requires-clause-count g c =
     omega arith
 
 pub loop-place-preserved : goal.loop-place-preserved
-loop-place-preserved g c = (rw c.deref.ensures.value at c.in_ok-mark_from.ensures.done, of_more (IsHeldBack (rules_by c.args.question.now.policy.now.moment c.args.question.now.policy.now.demand_lists (g.S.Vouch.vouches_for c.args.search.now)) (items_in c.args.question.now) (reach_by c.args.answer.now)) c.args.further.now c.loop-place.place-index c.in_ok-marks.marks.items c.loop-place.marks.items c.mark_from.new.marks.items c.loop-place-test.true c.loop-place.invariant.1 c.in_ok-mark_from.ensures.marks)
+loop-place-preserved g c = (c.in_ok-mark_from.ensures.held, of_more (IsHeldBack (rules_by c.args.question.now.policy.now.moment c.args.question.now.policy.now.demand_lists (g.S.Vouch.vouches_for c.args.search.now)) (items_in c.args.question.now) (reach_by c.args.answer.now)) c.args.further.now c.loop-place.place-index c.in_ok-marks.marks.items c.loop-place.marks.items c.mark_from.new.marks.items c.loop-place-test.true c.loop-place.invariant.1 c.in_ok-mark_from.ensures.marks)
 
 pub returns : goal.returns
 returns g c = of_all (IsHeldBack (rules_by c.args.question.now.policy.now.moment c.args.question.now.policy.now.demand_lists (g.S.Vouch.vouches_for c.args.search.now)) (items_in c.args.question.now) (reach_by c.args.answer.now)) c.args.further.now c.loop-place.place-index c.in_ok-marks.marks.items c.loop-place.marks.items c.loop-place-test.false c.in_ok-marks.ensures.none c.loop-place.invariant.1

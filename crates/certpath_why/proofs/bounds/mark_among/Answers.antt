@@ -1,37 +1,111 @@
-use Rattle.std.proofs.Common.{◌≡◌, map, get_or, arith}
-use Rattle.std.proofs.lemmas.List.{length-map}
-use Rattle.std.proofs.lemmas.List.Elements.{Contains-get_or}
-use Rattle.cert_graph.specs.Entries.{IsAt}
-use Rattle.cert_graph.specs.declared.reach.Reach.TheVariants.{UpTo}
-use Rattle.cert_judge.specs.ItemGraph.{IsLink}
-use Rattle.cert_judge.specs.Items.{item_of, certificate_item, rules_by}
-use Rattle.cert_judge.proofs.Mapped.{not_both}
+use Rattle.std.proofs.Common.{sym, inl, inr}
+use Rattle.std.specs.List.{Contains}
 use Rattle.certpath_why.specs.Bounds.{reach_by}
-use Rattle.certpath_why.proofs.Bounding.{among_none, among_same, among_more, among_all}
+use Rattle.certpath_why.specs.Held.{search_rules, IsSearchGroup, MayHoldBack}
+use Rattle.certpath_why.specs.Named.{AreGathered}
+use Rattle.certpath_why.specs.Question.{items_in}
+use Rattle.certpath_why.proofs.Backing.{bare_below, bare_kept, bare_more, certificates_there, gathered_there, group_alike, marks_both, marks_named, named_below}
+use Rattle.certpath_why.proofs.Signed.{signed_first, signed_number}
+use Rattle.certpath_why.proofs.Tailing.{written_more}
 use Rattle.certpath_why.proofs.bounds.mark_among.Goals as goal
 
-pub loop-issuer-init : goal.loop-issuer-init
-loop-issuer-init g c = among_none (λ v. (reach_by c.args.answer.now v ≡ UpTo 0) × IsAt (map item_of c.args.linking.now.items.now) v (IsLink (rules_by c.args.linking.now.policy.moment c.args.linking.now.policy.demand_lists (g.V.Vouch.vouches_for c.args.vouch.now)) (map item_of c.args.linking.now.items.now) (certificate_item c.args.linking.now.certificate.now))) c.args.issuers.now c.args.marks.now.items
+pub held_group-requires-clause-place : goal.held_group-requires-clause-place
+held_group-requires-clause-place g c =
+    let q = c.args.question.now in
+    let firsts = c.requires.firsts in
+    signed_number (g.S.Vouch.vouches_for c.args.searched.now.vouch.now).Vouches q.found.now.items.now q.found.now.items.now q.signers.now.classes firsts.holders firsts.signed_are c.args.place c.requires.at.0
 
-pub is_held_back-requires-clause-subject : goal.is_held_back-requires-clause-subject
-is_held_back-requires-clause-subject g c = c.requires.issuers _ (Contains-get_or c.args.issuers.now c.loop-issuer.issuer-index 0 c.loop-issuer-test.true)
+pub held_group-requires-clause-number : goal.held_group-requires-clause-number
+held_group-requires-clause-number g c =
+    let q = c.args.question.now in
+    signed_first (g.S.Vouch.vouches_for c.args.searched.now.vouch.now).Vouches q.found.now.items.now q.found.now.items.now q.signers.now.classes c.args.searched.now.firsts.now c.requires.firsts c.args.place c.requires.at.0
 
-pub put_mark-requires : goal.put_mark-requires
-put_mark-requires g c =
-    let at = (c.requires.issuers (get_or c.args.issuers.now c.loop-issuer.issuer-index 0) (Contains-get_or c.args.issuers.now c.loop-issuer.issuer-index 0 c.loop-issuer-test.true)).0 in
-    let long = length-map c.args.linking.now.items.now item_of in
-    let count = c.requires.count in
-    let same = c.loop-issuer.invariant.count in
-    omega arith
+pub mark_all-requires : goal.mark_all-requires
+mark_all-requires g c =
+    let q = c.args.question.now in
+    let x = c.args.certificate.now in
+    let V = g.S.Vouch.vouches_for c.args.searched.now.vouch.now in
+    let moment = q.policy.now.moment in
+    let demand = q.policy.now.demand_lists in
+    let xs = q.found.now.items.now in
+    let reach = reach_by c.args.searched.now.answer.now in
+    let under = c.in-Some.under.now in
+    let kind = rw (c.requires.items, c.requires.policy) at c.in_ok-kind.ensures in
+    let are = c.requires.groups c.in_ok-kind.kind under (sym c.in-Some.ensures.value) c.args.place x c.requires.at kind in
+    let exact = c.in_ok-named.ensures xs (gathered_there V moment demand xs reach x under are) (certificates_there V moment demand xs reach x under are) in
+    rw (c.deref.ensures.value, c.requires.count) (named_below V moment demand xs reach x under are c.in_ok-named.named.items exact)
 
-pub loop-issuer-preserved-then-not-held : goal.loop-issuer-preserved-then-not-held
-loop-issuer-preserved-then-not-held g c =
-    among_same (λ v. (reach_by c.args.answer.now v ≡ UpTo 0) × IsAt (map item_of c.args.linking.now.items.now) v (IsLink (rules_by c.args.linking.now.policy.moment c.args.linking.now.policy.demand_lists (g.V.Vouch.vouches_for c.args.vouch.now)) (map item_of c.args.linking.now.items.now) (certificate_item c.args.linking.now.certificate.now))) c.args.issuers.now c.loop-issuer.issuer-index c.args.marks.now.items c.loop-issuer.marks.items c.loop-issuer-test.true (λ q. not_both _ (c.in_ok-held.ensures.1 q) c.if-not-held.true) c.loop-issuer.invariant
+pub returns-in-Some-clause-bare : goal.returns-in-Some-clause-bare
+returns-in-Some-clause-bare g c = bare_kept c.args.groups.now (Contains c.deref.result.now) c.args.marks.now.items c.mark_all.new.marks.items c.requires.bare c.mark_all.ensures
 
-pub loop-issuer-preserved : goal.loop-issuer-preserved
-loop-issuer-preserved g c =
-    among_more (λ v. (reach_by c.args.answer.now v ≡ UpTo 0) × IsAt (map item_of c.args.linking.now.items.now) v (IsLink (rules_by c.args.linking.now.policy.moment c.args.linking.now.policy.demand_lists (g.V.Vouch.vouches_for c.args.vouch.now)) (map item_of c.args.linking.now.items.now) (certificate_item c.args.linking.now.certificate.now))) c.args.issuers.now c.loop-issuer.issuer-index c.args.marks.now.items c.loop-issuer.marks.items c.put_mark.new.marks.items c.loop-issuer-test.true (c.in_ok-held.ensures.0 c.if-not-held.false) c.loop-issuer.invariant
-    c.put_mark.ensures.count c.put_mark.ensures.exact
+pub returns-in-Some-clause-marks : goal.returns-in-Some-clause-marks
+returns-in-Some-clause-marks g c =
+    let q = c.args.question.now in
+    let x = c.args.certificate.now in
+    let V = g.S.Vouch.vouches_for c.args.searched.now.vouch.now in
+    let moment = q.policy.now.moment in
+    let demand = q.policy.now.demand_lists in
+    let xs = q.found.now.items.now in
+    let reach = reach_by c.args.searched.now.answer.now in
+    let under = c.in-Some.under.now in
+    let kind = rw (c.requires.items, c.requires.policy) at c.in_ok-kind.ensures in
+    let are = c.requires.groups c.in_ok-kind.kind under (sym c.in-Some.ensures.value) c.args.place x c.requires.at kind in
+    let exact = c.in_ok-named.ensures xs (gathered_there V moment demand xs reach x under are) (certificates_there V moment demand xs reach x under are) in
+    marks_named V moment demand xs reach x under are c.in_ok-named.named.items exact c.args.marks.now.items c.mark_all.new.marks.items (c.requires.bare c.in_ok-kind.kind under (sym c.in-Some.ensures.value)) (rw c.deref.ensures.value at c.mark_all.ensures)
 
-pub returns : goal.returns
-returns g c = among_all (λ v. (reach_by c.args.answer.now v ≡ UpTo 0) × IsAt (map item_of c.args.linking.now.items.now) v (IsLink (rules_by c.args.linking.now.policy.moment c.args.linking.now.policy.demand_lists (g.V.Vouch.vouches_for c.args.vouch.now)) (map item_of c.args.linking.now.items.now) (certificate_item c.args.linking.now.certificate.now))) c.args.issuers.now c.loop-issuer.issuer-index c.args.marks.now.items c.loop-issuer.marks.items c.loop-issuer-test.false c.loop-issuer.invariant
+pub mark_all-requires-2 : goal.mark_all-requires-2
+mark_all-requires-2 g c =
+    let q = c.args.question.now in
+    rw (c.deref-2.ensures.value, c.requires.count) (bare_below (g.S.Vouch.vouches_for c.args.searched.now.vouch.now) q.policy.now.moment q.policy.now.demand_lists q.found.now.items.now (reach_by c.args.searched.now.answer.now) c.args.certificate.now c.in_ok-under.under c.in_ok-under.ensures)
+
+pub mark_all-requires-3 : goal.mark_all-requires-3
+mark_all-requires-3 g c =
+    let q = c.args.question.now in
+    let x = c.args.certificate.now in
+    let V = g.S.Vouch.vouches_for c.args.searched.now.vouch.now in
+    let moment = q.policy.now.moment in
+    let demand = q.policy.now.demand_lists in
+    let xs = q.found.now.items.now in
+    let reach = reach_by c.args.searched.now.answer.now in
+    let under = c.in_ok-under.under in
+    let are = c.in_ok-under.ensures in
+    let exact = c.in_ok-named-2.ensures xs (gathered_there V moment demand xs reach x under are) (certificates_there V moment demand xs reach x under are) in
+    rw (c.deref-3.ensures.value, c.mark_all-2.ensures.count, c.requires.count) (named_below V moment demand xs reach x under are c.in_ok-named-2.named.items exact)
+
+pub returns-clause-groups : goal.returns-clause-groups
+returns-clause-groups g c =
+    let q = c.args.question.now in
+    let x = c.args.certificate.now in
+    let V = g.S.Vouch.vouches_for c.args.searched.now.vouch.now in
+    let moment = q.policy.now.moment in
+    let demand = q.policy.now.demand_lists in
+    let xs = q.found.now.items.now in
+    let reach = reach_by c.args.searched.now.answer.now in
+    let under = c.in_ok-under.under in
+    let kind = rw (c.requires.items, c.requires.policy) at c.in_ok-kind.ensures in
+    written_more xs (IsSearchGroup q c.args.searched.now.firsts.now) (λ y. AreGathered xs (MayHoldBack (search_rules q V) (items_in q) reach y)) c.args.groups.now c.insert.new.self c.in_ok-kind.kind under c.requires.groups
+    (λ p y at k. group_alike V moment demand xs q.signers.now.classes c.args.searched.now.firsts.now reach c.args.place p x y c.in_ok-kind.kind.items under c.requires.firsts c.requires.at at kind k c.in_ok-under.ensures) (λ z. c.in_ok-insert.ensures.updates.0 z)
+
+pub returns-clause-bare : goal.returns-clause-bare
+returns-clause-bare g c =
+    let under = c.in_ok-under.under in
+    let marks = c.mark_all-3.new.marks.items in
+    let first = bare_kept c.args.groups.now (Contains c.deref-2.result.now) c.args.marks.now.items c.mark_all-2.new.marks.items c.requires.bare c.mark_all-2.ensures in
+    let before = bare_kept c.args.groups.now (Contains c.deref-3.result.now) c.mark_all-2.new.marks.items marks first c.mark_all-3.ensures in
+    let bare = rw c.deref-2.ensures.value at c.mark_all-2.ensures in
+    bare_more c.args.groups.now c.insert.new.self c.in_ok-kind.kind under marks before
+    (λ v b. (c.mark_all-3.ensures.exact v).1 (inl ((bare.exact v).1 (inr b)))) (λ z. c.in_ok-insert.ensures.updates.0 z)
+
+pub returns-clause-marks : goal.returns-clause-marks
+returns-clause-marks g c =
+    let q = c.args.question.now in
+    let x = c.args.certificate.now in
+    let V = g.S.Vouch.vouches_for c.args.searched.now.vouch.now in
+    let moment = q.policy.now.moment in
+    let demand = q.policy.now.demand_lists in
+    let xs = q.found.now.items.now in
+    let reach = reach_by c.args.searched.now.answer.now in
+    let under = c.in_ok-under.under in
+    let are = c.in_ok-under.ensures in
+    let exact = c.in_ok-named-2.ensures xs (gathered_there V moment demand xs reach x under are) (certificates_there V moment demand xs reach x under are) in
+    marks_both V moment demand xs reach x under are c.in_ok-named-2.named.items exact c.args.marks.now.items c.mark_all-2.new.marks.items c.mark_all-3.new.marks.items (rw c.deref-2.ensures.value at c.mark_all-2.ensures) (rw c.deref-3.ensures.value at c.mark_all-3.ensures)

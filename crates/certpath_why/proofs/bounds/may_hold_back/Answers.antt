@@ -1,12 +1,12 @@
 use Rattle.std.proofs.Common.{◌≡◌, ◌∙◌, sym, [], map, refl}
-use Rattle.cert_judge.specs.Items.{item_of, rules_by}
+use Rattle.cert_judge.specs.Items.{item_of}
 use Rattle.cert_judge.proofs.Mapped.{not_both}
 use Rattle.certpath_why.proofs.Items.{none_read, read_subject, subject_certificate}
-use Rattle.certpath_why.proofs.Bounding.{link_there}
-use Rattle.certpath_why.proofs.bounds.is_held_back.Goals as goal
+use Rattle.certpath_why.proofs.Backing.{issued_there}
+use Rattle.certpath_why.proofs.bounds.may_hold_back.Goals as goal
 
-pub why_unlinked-requires-clause-issuer : goal.why_unlinked-requires-clause-issuer
-why_unlinked-requires-clause-issuer g c =
+pub why_unlinked_to_anchor-requires-clause-issuer : goal.why_unlinked_to_anchor-requires-clause-issuer
+why_unlinked_to_anchor-requires-clause-issuer g c =
     let l = c.args.linking.now in
     read_subject l.items.now c.args.issuer c.in-Some.item.now l.certificate.now.issuer.now (rw c.items.ensures at c.in-Some.ensures.found) c.requires.subject
 
@@ -22,6 +22,6 @@ returns-in_default g c =
 pub returns : goal.returns
 returns g c =
     let l = c.args.linking.now in
-    let there = link_there (rules_by l.policy.moment l.policy.demand_lists (g.V.Vouch.vouches_for c.args.vouch.now)) l.items.now l.certificate.now c.in-Some.item.now c.args.issuer (c.in_ok-reasons.reasons.items ≡ []) (rw c.items.ensures at c.in-Some.ensures.found) c.requires.subject (λ same. c.in_ok-reasons.ensures.none) in
+    let there = issued_there (g.V.Vouch.vouches_for c.args.vouch.now) l.policy.moment l.policy.demand_lists l.items.now l.certificate.now c.in-Some.item.now c.args.issuer (c.in_ok-reasons.reasons.items ≡ []) (rw c.items.ensures at c.in-Some.ensures.found) c.requires.subject (λ is. c.in_ok-reasons.ensures.none) in
     let none = rw c.deref.ensures.value at c.is_none.ensures in
     (λ e. (sym c.reach_in.ensures ∙ c.takes_none_below.ensures.0 c.if-not-takes_none_below.false, there.0 (none.0 e)), λ h. none.1 (there.1 h.1))
