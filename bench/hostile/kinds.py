@@ -18,11 +18,10 @@ PATHS = square("paths")
 QUESTIONS = square("questions", 5_000)
 EVIDENCE = square("evidence")
 LISTS = Known("lists", growth=3.4)
-# Of `why`: a certificate and a list that revokes it, which are printed; the lines of many
-# issuers; and path lengths above certificates that name a key identifier each. Runs of ./verify that ask it until their seconds are over.
+# Of `why`: a certificate and a list that revokes it, which are printed; and the lines of
+# many issuers. Runs of ./verify that ask it until their seconds are over.
 PAIRS = Known("why", growth=5.5, times=700, seconds=4.0)
 OF_ISSUERS = Known("why", times=21)
-HELD_BACK = Known("why", growth=3.4)
 WHY_OF_VERIFY = Known("why", growth=5.5, times=30, seconds=12.0, least=320_000_000)
 # Items of two octets, small certificates, and elements of two octets within an item.
 ITEMS = Known("items", times=280)

@@ -2,7 +2,7 @@
 from family import FAMILIES, Files, family
 from graphs import (ANCHOR, COMMON_KEY, LEAF, ROOT, ROOT_KEY, X, ids_never, lists, own_keys,
                     self_serials)
-from kinds import HELD_BACK, PAIRS
+from kinds import PAIRS
 from parts import certificate, element, entry, extension, integer, key, name, revocation_list, voucher
 
 # Sizes at which a square shows.
@@ -72,7 +72,7 @@ def copies_reached(count):
 @family("why-held-ids", "a leaf, n/2 certificates of its issuer's name that name a key identifier "
         "each, and n/2 of their issuer's name and one key that have one each; the first of these "
         "leads to the anchor with nothing below it", "why",
-        sizes=(2_000, 4_000, 8_000, 16_000), small=(1_000, 4_000), known=HELD_BACK)
+        sizes=(2_000, 4_000, 8_000, 16_000), small=(1_000, 4_000))
 def held_ids(count):
     half, ids = count // 2, [it.to_bytes(4, "big") for it in range(count // 2)]
     leaf = certificate(LEAF, X, COMMON_KEY)
