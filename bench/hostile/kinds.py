@@ -18,9 +18,10 @@ PATHS = square("paths")
 QUESTIONS = square("questions", 5_000)
 EVIDENCE = square("evidence")
 LISTS = Known("lists", growth=3.4)
-# Of `why`: a certificate and a list that revokes it, which are printed; and the lines of
+# Of `why`: a certificate and a key of its issuer's name that uses a list of its own, which are
+# printed, and a certificate with a row of lists of its own and one that signed it; and the lines of
 # many issuers. Runs of ./verify that ask it until their seconds are over.
-PAIRS = Known("why", growth=5.5, times=700, seconds=4.0)
+OF_LINKS = square("links")
 OF_ISSUERS = Known("why", times=21)
 WHY_OF_VERIFY = Known("why", growth=5.5, times=30, seconds=12.0, least=320_000_000)
 # Items of two octets, small certificates, and elements of two octets within an item.

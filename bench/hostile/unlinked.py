@@ -1,8 +1,8 @@
 """Families of `why` over links that don't hold: lists that revoke, copies, and what is demanded."""
 from family import FAMILIES, Files, family
 from graphs import (ANCHOR, COMMON_KEY, LEAF, ROOT, ROOT_KEY, X, ids_never, lists, own_keys,
-                    self_serials)
-from kinds import PAIRS
+                    self_serials, vouched)
+from kinds import OF_LINKS
 from parts import certificate, element, entry, extension, integer, key, name, revocation_list, voucher
 
 # Sizes at which a square shows.
@@ -28,7 +28,7 @@ def by_common_key(items):
 
 
 @family("why-pairs-lists", "n/2 certificates of one name, key and serial number, and n/2 used lists "
-        "that have it", "why", sizes=(250, 500, 1_000, 2_000), small=(500, 2_000), known=PAIRS)
+        "that have it", "why", **OF_SQUARE)
 def pairs_lists(count):
     half = count // 2
     items = [certificate(X, X, COMMON_KEY, REVOKED, own=it.to_bytes(4, "big")) for it in range(half)]
@@ -36,12 +36,46 @@ def pairs_lists(count):
 
 
 @family("why-kinds-lists", "n/2 certificates of one name, key and serial number, which name a key "
-        "identifier each, and n/2 used lists that have it", "why", sizes=(400, 800, 1_600, 3_200),
-        small=(300, 1_200), known=PAIRS)
+        "identifier each, and n/2 used lists that have it", "why", **OF_SQUARE)
 def kinds_lists(count):
     half = count // 2
     items = [certificate(X, X, COMMON_KEY, REVOKED, named=it.to_bytes(4, "big")) for it in range(half)]
     return by_common_key([*items, *revoking(half)])
+
+
+@family("why-rows-lists", "n/2 certificates of one name and key, all linked but for n/2 used "
+        "lists, the i-th of which has the serial numbers of certificates i and i + 1", "why",
+        **OF_SQUARE, known=OF_LINKS)
+def rows_lists(count):
+    half = count // 2
+    items = [certificate(X, X, COMMON_KEY, it) for it in range(half)]
+    found = [revocation_list(X, entry(integer(it)) + entry(integer(it + 1))) for it in range(half)]
+    return by_common_key([*items, *found])
+
+
+def below(count):
+    """A leaf, and so many certificates of its issuer's name, of one key and serial number."""
+    ids = (it.to_bytes(4, "big") for it in range(count))
+    held = [certificate(Y, X, COMMON_KEY, REVOKED, own=it) for it in ids]
+    return [certificate(LEAF, Y, COMMON_KEY), *held]
+
+
+@family("why-lists-anchors", "a leaf, n/4 certificates of its issuer's name, one key and serial "
+        "number, n/2 anchors of their issuer's name and one key, and n/4 used lists that have it",
+        "why", **OF_SQUARE)
+def lists_anchors(count):
+    made = by_common_key([*below(count // 4), *revoking(count // 4)])
+    return made._replace(anchors=[certificate(X, X, COMMON_KEY, it) for it in range(count // 2)])
+
+
+@family("why-lists-keys", "a leaf, n/3 certificates of its issuer's name, one key and serial "
+        "number, n/3 keys of their issuer's name, and n/3 lists that have it, each used by one of "
+        "these keys", "why", sizes=(500, 1_000, 2_000, 4_000), small=(1_000, 4_000),
+        known=OF_LINKS)
+def lists_keys(count):
+    third = count // 3
+    items, found = below(third), revoking(third)
+    return Files([*items, *found, *own_keys(third, X, ROOT)], [ANCHOR], vouched(found))
 
 
 @family("why-signers-lists", "a leaf, n/2 keys of its issuer's name that all vouch for it, and n/2 "

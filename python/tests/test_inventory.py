@@ -69,6 +69,14 @@ def certificate(serial, extensions=b""):
     return element(0x30, element(0x30, signed) + algorithm + b"\x03\x02\x00\x00")
 
 
+def revocations(*serials):
+    """A list of such certificates, which their issuer's name issued."""
+    algorithm, time = bytes.fromhex("300506032b6570"), b"\x17\x0d260101000000Z"
+    entries = (element(0x30, b"\x02\x02" + (1000 + it).to_bytes(2, "big") + time) for it in serials)
+    signed = algorithm + NAME + time + b"\x17\x0d270101000000Z" + element(0x30, b"".join(entries))
+    return element(0x30, element(0x30, signed) + algorithm + b"\x03\x02\x00\x00")
+
+
 def usage(purposes):
     """An extKeyUsage (RFC 5280, 4.2.1.12) as the extensions of a certificate."""
     value = element(0x04, element(0x30, b"".join(purposes)))
@@ -651,6 +659,27 @@ class Reasons(Room):
         self.assertEqual(said[5], f"at {targets[0].item} no issuer: no authority")
         self.assertEqual((len(said), said[-1]), (21, ".. 9 further"))
 
+    def test_first_list(self):
+        """Of lists that revoke, the first one in the order of everything is named in each report."""
+        path, targets = self.made(4)
+        lists = [revocations(*range(4), it) for it in (9, 8, 7)]
+        reads = [rows.read(Entry(HERE, "item", it), LIMIT) for it in lists]
+        held = [index.Candidate(*it) for it in zip(reads, lists)]
+        self.assertEqual(len([*index.add_issuers(path, held)]), 3)
+        first, second = (it.row.sha256 for it in reads[1:])
+        key = rows.digest(certpath.frame(LEAF)[0].public_key_bytes)
+        with index.Index(path) as opened:
+            held, size = self.reasons(opened), reasons.Size(16, 16)
+            held.asked.keys.update({first: [key], second: [key]})
+            asked = targets[0].issuer, targets[:3], size
+            found = [held.together(*asked), {it.item: held.alone(it, size) for it in targets[:3]}]
+            with mock.patch.multiple(reasons, FRONT=3, MOST_REASONS=6):
+                found.append(dict(held.by_front(*asked)))
+        self.assertEqual([*map(len, found)], [3, 3, 3])
+        for said in (it for each in found for it in each.values()):
+            self.assertIn(f"not linked: revoked by list {first}", said)
+            self.assertNotIn(f"revoked by list {second}", said)
+
     def test_many_anchors(self):
         """Anchors are counted by themselves: there may be more of them than items."""
         path, targets = self.made(1)
@@ -717,6 +746,15 @@ class Reasons(Room):
              *(f"at 3 to anchor {it} not linked: revoked by list 7" for it in (1, 2))], 6))
         first, total = found[reasons.Part.CERTIFICATES, 4]["not linked"]
         self.assertEqual((len(first), total), (20, 23))
+
+    def test_name_like_a_list(self):
+        """A name that ends as a reason does names no list."""
+        path, targets = self.made(1)
+        line = "at 0 no issuer here: CN=not linked: revoked by list 99"
+        with index.Index(path) as opened:
+            shard = shards.shard_of(opened, targets)
+            named = self.reasons(opened).naming(shard, targets[0].item)
+            self.assertEqual(named(reasons.obstacle_of(line)), line.replace("at 0", "at target"))
 
     def test_limit(self):
         """A report of too many pairs isn't asked for, nor more than a block may have, where the

@@ -26,6 +26,7 @@ from trials.synthetic import CONSTRAINTS, USAGE, element, extension, name, numbe
 # How many random bundles are made: by hand, in the gate, and on a machine without the toolchain.
 MANY, SOME, FEW = 10_000, 500, 50
 SEED, SECONDS = "reasons", 600
+ALL_KINDS = (*model.KINDS, *model.CASES)
 # The page that says what each line means, and how many lines have an example there at least.
 PAGE, EXAMPLES = "docs/REASONS.md", 36
 AT = "2025-06-01T00:00:00"
@@ -41,26 +42,27 @@ NO_AUTHORITY = extension(CONSTRAINTS, True, b"\x30\0")
 
 
 class Row(NamedTuple):
-    """Items and anchors, all of which the one key signed, and the report's lines without the
-    check."""
+    """Items and anchors, and the report's lines without the check. `signed` has pairs of a key and
+    an item that it signed; if it is empty, the one key signed all items."""
     title: str
     items: list
     anchors: list
     lines: list
     status: int = 0
     demand: tuple = ()
+    signed: tuple = ()
 
 
 def utc(text):
     return element(0x17, text.encode())
 
 
-def certificate(subject, issuer, validity=YEAR, extensions=()):
+def certificate(subject, issuer, validity=YEAR, extensions=(), key=KEY):
     """A certificate of serial number 1."""
     version = [element(0xa0, number(2))] * bool(extensions)
     after = [element(0xa3, sequence(*extensions))] * bool(extensions)
     first = sequence(*version, number(1), ALGORITHM, issuer, sequence(*map(utc, validity)),
-                     subject, KEY, *after)
+                     subject, key, *after)
     return sequence(first, ALGORITHM, SIGNATURE)
 
 
@@ -126,6 +128,73 @@ def list_rows():
                    "no next update", "not current before 2025-07-01T00:00:00",
                    "extension 0 critical 2.5.29.29", "extension 1 critical 2.5.29.29",
                    "entry 0 has a critical extension")
+
+
+def revoking_list(other):
+    """A list of the leaf's serial number and another one, by which such lists differ."""
+    return revocations([utc(one) for one in YEAR], [entry(other), entry(1)])
+
+
+LISTS = [revoking_list(other) for other in (2, 3, 4)]
+
+
+def first_list_rows():
+    """Several lists by one key: the first one that is used and revokes the leaf is named."""
+    def row(title, lists, named, *lines, signed=()):
+        line = f"at 0 to anchor 0 not linked: revoked by list {named}"
+        report = ["none", "at 0 CN=a", line, *lines]
+        return Row(title, [LEAF, *lists], [ANCHOR], report, 1, (), signed)
+
+    of_another = revocations([utc(one) for one in YEAR], [entry(2)])
+    ended = revocations([utc("250101000000Z"), utc("250201000000Z")], [entry(1)])
+    yield row("several lists that revoke", LISTS, 1)
+    yield row("a list that revokes, twice", LISTS[:1] * 2, 1)
+    yield row("a list of another certificate before lists that revoke", [of_another, *LISTS], 2)
+    yield row("a list past its next update before lists that revoke", [ended, *LISTS], 2,
+              "list 1 CN=b", "list 1 not used: past next update 2025-02-01T00:00:00")
+    yield row("a list that nobody signed before lists that revoke", LISTS, 2,
+              "list 1 CN=b", "list 1 not used: no voucher by a key of its issuer",
+              signed=[(KEY, item) for item in (LEAF, *LISTS[1:])])
+
+
+def signed_by(*keys):
+    """Pairs of which all keys signed the leaf, and those of these numbers each of the lists."""
+    of_lists = ((KEYS[it], item) for item, each in zip(LISTS, keys) for it in each)
+    return [*((key, LEAF) for key in KEYS), *of_lists]
+
+
+def of_issuer(position):
+    """What is said of a certificate of the leaf's issuer's name."""
+    return [f"at {position} {said}" for said in (
+        "CN=b", "no issuer: no authority", "no issuer here: CN=c")]
+
+
+def list_key_rows():
+    """Lists by several keys of one name: of each key the first one is named."""
+    issuers = [certificate(name("b"), name("c"), key=KEYS[it]) for it in (0, 1, 0, 2, 3)]
+    own = [line for k in range(4, 9) for line in of_issuer(k)]
+    yield Row("issuers of one name with other first lists", [LEAF, *LISTS, *issuers], [],
+              ["none", "at 0 CN=a", "at 0 to 8 linked",
+               "at 0 to 5 not linked: revoked by list 1",
+               "at 0 to 4, 6 not linked: revoked by list 2",
+               "at 0 to 7 not linked: revoked by list 3", *own], 1, (), signed_by([1], [0, 1], [2]))
+    yield Row("lists that are the first ones for no issuer", [LEAF, *LISTS, *issuers], [],
+              ["none", "at 0 CN=a", "at 0 to 7-8 linked",
+               "at 0 to 4-6 not linked: revoked by list 1", *own],
+              1, (), signed_by([0, 1], [1], [0]))
+    anchors = [certificate(name("b"), name("b"), key=KEYS[it]) for it in (0, 1, 2)]
+    yield Row("anchors with other first lists", [LEAF, *LISTS[:2], *issuers[:2]], anchors,
+              ["path 0 anchor 2", "at 0 CN=a", "at 0 to 4 not linked: revoked by list 1",
+               "at 0 to 3 not linked: revoked by list 2", "at 0 to anchor 2 linked",
+               "at 0 to anchor 1 not linked: revoked by list 1",
+               "at 0 to anchor 0 not linked: revoked by list 2", *of_issuer(3), *of_issuer(4)],
+              0, (), signed_by([1], [0, 1]))
+    yield Row("a list that an anchor's key alone signed", [LEAF, *LISTS[:2], issuers[0]],
+              anchors[:2],
+              ["none", "at 0 CN=a", "at 0 to 3 not linked: revoked by list 2",
+               "at 0 to anchor 1 not linked: revoked by list 1",
+               "at 0 to anchor 0 not linked: revoked by list 2", *of_issuer(3)],
+              1, (), signed_by([1], [0]))
 
 
 def certificate_rows():
@@ -247,8 +316,8 @@ def demand_rows():
 
 def all_rows():
     """The rows whose dates and names are written out."""
-    for rows in (list_rows, certificate_rows, repeat_rows, usage_rows, name_rows, bound_rows,
-                 range_rows, demand_rows):
+    for rows in (list_rows, first_list_rows, list_key_rows, certificate_rows, repeat_rows,
+                 usage_rows, name_rows, bound_rows, range_rows, demand_rows):
         yield from rows()
 
 
@@ -303,7 +372,7 @@ def try_rows(count, asking):
     """The rows whose dates and names are written out."""
     for row in all_rows():
         files = (b"".join(row.items), b"".join(row.anchors),
-                 paths.vouchers((KEY, item) for item in row.items))
+                 paths.vouchers(row.signed or ((KEY, item) for item in row.items)))
         words = [f"--{row.demand[0]}", row.demand[1]] if row.demand else []
         count.same(row.title, asking.report(files, ["--target", "0", "--at", AT, *words]),
                    (row.status, report_of(row), b""))
@@ -325,12 +394,14 @@ def differences(said, lines):
 
 
 def try_bundles(count, asking, bundles):
-    """Random bundles; gives how often each kind of line occurred."""
+    """Random bundles; gives how often each kind of line occurred, and each case."""
     kinds = collections.Counter()
     for k in range(bundles):
         asked = making.Chance(f"{SEED} {k}").question()
-        lines, status = model.Model(asked).report()
+        made = model.Model(asked)
+        lines, status = made.report()
         kinds.update(line.kind for line in lines)
+        kinds.update(made.cases())
         wanted = text_of(line.text for line in lines)
         words = making.words_of(asked)
         got, said, error = asking.report(making.files_of(asked), words)
@@ -358,12 +429,13 @@ class Reasons(Trial):
         self.try_bundles(size(SOME, FEW))
 
     def try_bundles(self, bundles):
-        """Random bundles, among whose lines each kind has to occur if there are enough of them."""
+        """Random bundles, among whose lines each kind has to occur, and each case, if there are
+        enough of them."""
         kinds = try_bundles(self, self.asking, bundles)
         if bundles >= SOME:
-            lacking = [kind for kind in model.KINDS if not kinds[kind]]
+            lacking = [kind for kind in ALL_KINDS if not kinds[kind]]
             self.same("kinds of lines that didn't occur", lacking, [])
-        self.same("kinds of lines that have no name", {*kinds} - {*model.KINDS}, set())
+        self.same("kinds of lines that have no name", {*kinds} - {*ALL_KINDS}, set())
         return kinds
 
     def runTest(self):
@@ -372,7 +444,7 @@ class Reasons(Trial):
         begun = time.monotonic()
         kinds = self.try_bundles(self.by_hand)
         print(f"{self.by_hand} bundles in {time.monotonic() - begun:.0f} s")
-        for kind in model.KINDS:
+        for kind in ALL_KINDS:
             print(f"{kinds[kind]:8} {kind}")
 
 

@@ -200,7 +200,8 @@ def words_of(asked):
 
 class Chance:
     """One random question. Names have ranks: most certificates are issued by the next one. Some
-    bundles are long: chains of several authorities, where path lengths matter."""
+    bundles are long: chains of several authorities, where path lengths matter. Some have several
+    lists of one name, and issuers of that name with different keys."""
 
     def __init__(self, seed):
         self.random = random.Random(seed)
@@ -208,11 +209,12 @@ class Chance:
         self.is_long = self.is_so(0.4)
         self.faults = self.pick(FAULTS[:-2] if self.is_long else FAULTS)
         self.list_faults = self.pick(LIST_FAULTS)
-        self.serials = self.pick((SERIALS, SERIALS[:2]))
         self.moment = self.pick(MOMENTS)
         count = self.pick((4, 5) if self.is_long else (1, 2, 2, 3, 3, 3, 4, 4))
         self.names = [*dict.fromkeys(self.random.sample(NAMES, count))]
         self.keys = {name: self.pick(KEYS) for name in self.names}
+        self.crowded = self.names[:2][-1] if not self.is_long and self.is_so(0.25) else None
+        self.serials = SERIALS[:2] if self.crowded else self.pick((SERIALS, SERIALS[:2]))
         demanded = self.is_so(0.1 if self.is_long else 0.35)
         self.demand_lists = self.is_so(0 if self.is_long else 0.2)
         self.purpose = self.pick(PURPOSES) if demanded and self.is_so(0.8) else None
@@ -315,7 +317,8 @@ class Chance:
         return tuple(found)
 
     def key_of(self, name):
-        return self.pick(KEYS) if self.is_so(0.1) else self.keys[name]
+        is_other = self.is_so(0.6 if name == self.crowded else 0.1)
+        return self.pick(KEYS) if is_other else self.keys[name]
 
     def certificate(self, rank, above):
         """A certificate of a name, issued by another one or by itself."""
@@ -367,6 +370,9 @@ class Chance:
         found += [self.revocations(self.pick(self.names)) for _ in range(lists)]
         if self.demand_lists:
             found += [self.revocations(name) for name in self.names[1:] if self.is_so(0.8)]
+        if self.crowded:
+            found += [self.certificate(self.names.index(self.crowded), most) for _ in "ab"]
+            found += [self.revocations(self.crowded) for _ in range(self.pick((2, 3, 4)))]
         found += [self.other()] * self.is_so(0.1)
         self.random.shuffle(found)
         return found + [self.pick(found)] * self.is_so(COPIES)

@@ -123,6 +123,9 @@ KINDS = (
     "no voucher by a key of its issuer", "no next update", "not current before",
     "past next update", "critical extension of a list", "has a critical extension", "other",
     "other anchor")
+# Cases of lists that revoke a certificate. No kind of line shows them.
+CASES = ("several lists revoke for one key", "the first list for one issuer is a further one for "
+         "another", "other first lists for anchors", "a list before the first one isn't used")
 
 
 def shown_moment(moment):
@@ -349,8 +352,18 @@ class Model:
         return [p for p, crl in self.lists.items() if crl.issuer == name
                 and not self.unused(crl, [key])]
 
+    def has_serial(self, p, certificate):
+        """Whether an entry of a list has a certificate's serial number."""
+        return certificate.serial in [entry.serial for entry in self.lists[p].entries]
+
+    def revoking(self, certificate, issuer):
+        """The positions of the lists that revoke a certificate under an issuer's name and key."""
+        used = self.used_lists(issuer.subject, issuer.key)
+        return [p for p in used if self.has_serial(p, certificate)]
+
     def unlinked(self, certificate, issuer, is_anchor):
-        """Why a certificate isn't linked to one of its issuer's name."""
+        """Why a certificate isn't linked to one of its issuer's name. Of the lists that revoke it
+        the first one says so."""
         found = []
         if (issuer.key, certificate) not in self.asked.vouchers:
             found.append(Line("no voucher", "no voucher"))
@@ -358,11 +371,10 @@ class Model:
         own = key_identifier(issuer, SUBJECT_KEY)
         if not is_anchor and named is not None and own is not None and named != own:
             found.append(Line("key identifiers differ", "key identifiers differ"))
-        used = self.used_lists(issuer.subject, issuer.key)
-        for p in used:
-            if certificate.serial in [entry.serial for entry in self.lists[p].entries]:
-                found.append(Line("revoked by list", f"revoked by list {p}"))
-        if self.asked.demand_lists and not used:
+        revoking = self.revoking(certificate, issuer)
+        if revoking:
+            found.append(Line("revoked by list", f"revoked by list {min(revoking)}"))
+        if self.asked.demand_lists and not self.used_lists(issuer.subject, issuer.key):
             found.append(Line("no list used", "no list used"))
         return found
 
@@ -415,6 +427,26 @@ class Model:
         reach = {v: self.reach(v) for v in further}
         back = [w for w in further if reach[w] == NOWHERE and self.counts(w)]
         return [v for v in further if reach[v] == 0 and any(v in self.links[w] for w in back)]
+
+    def revocations(self, certificate, holders):
+        """Of each certificate or anchor of the issuer's name the lists that revoke, if any do."""
+        each = [self.revoking(certificate, holder) for holder in holders.values()
+                if holder.subject == certificate.issuer]
+        return [*filter(None, each)]
+
+    def cases(self):
+        """Which of `CASES` occur, for each certificate that is reached."""
+        for certificate in map(self.certificates.get, self.reached):
+            issuers, anchors = (self.revocations(certificate, holders)
+                                for holders in (self.certificates, self.roots))
+            first, first_of_anchors = ({*map(min, each)} for each in (issuers, anchors))
+            unused = [p for p, one in self.lists.items() if one.issuer == certificate.issuer
+                      and self.has_serial(p, certificate) and not any(p in it for it in issuers)]
+            yield from (case for case, occurs in zip(CASES, (
+                any(len(each) > 1 for each in issuers + anchors),
+                any(p in each and p != min(each) for p in first for each in issuers),
+                first and first_of_anchors and first != first_of_anchors,
+                unused and first and min(unused) < min(first))) if occurs)
 
     def answer(self):
         """The line of the answer, and the status."""

@@ -210,6 +210,25 @@ def other_key(v, root):
     yield "a list by another key", (status, "since item 0 CN=leaf is revoked by list 2 " in text.split("\n")[0]), (1, True)
 
 
+def two_lists(v, root):
+    """Of used lists that revoke the leaf the first one is named; each list that isn't used is asked
+    about by itself, though another one revokes the leaf when it was issued."""
+    made = refusals.Maker(v.shop, "two lists", root)
+    leaf, issuer, past = made.of_list(next_update=refusals.PAST_UPDATE).bundle
+    later = made.chain.list(issuer, [2], "20260115000000Z", refusals.PAST_UPDATE)
+    used, last = made.chain.list(issuer, [2]), made.chain.list(issuer, [2, 3])
+    by_first = ["revoked by list 2"]
+    for title, lists, wanted in (
+            ("past their next updates", [past, later], ("refused", [], {2: "yes", 3: "yes"})),
+            ("one past its next update", [used, past], ("none", by_first, {3: "yes"})),
+            ("both used", [used, last], ("none", by_first, {}))):
+        words = [*named([leaf, issuer, *lists]), "--anchors", root.file, "--at", AT]
+        answer, = v.json(*words)[1]
+        unused = {one["position"]: one["revokes"] for one in answer["unused_lists"]}
+        reasons = [one["reason"] for one in answer["reasons"]]
+        yield f"two lists, {title}", (answer["outcome"], reasons, unused), wanted
+
+
 def forms(v, chain):
     """Files in all forms lead to one answer."""
     leaf, second, first, root = chain
@@ -368,8 +387,9 @@ class Verifying(Trial):
             chain = chain_of(t.shop, "plain", *KINDS["P-256"])
             jobs = [lambda entry=kind: [*kinds(v, entry)] for kind in KINDS]
             jobs += [lambda entry=case: [*refused(v, entry, root)] for case in [*refusals.CASES][::size(1, SAMPLED)]]
-            jobs += [lambda: [*crossed(v)], lambda: [*other_key(v, root)], lambda: [*forms(v, chain)], lambda: [*words_of(v, chain)],
-                     lambda: [*pages(v, chain, root)], lambda: [*looks(v, root)], lambda: [*of_system(v)], lambda: [*example()], lambda: [*large(v)]]
+            jobs += [lambda: [*crossed(v)], lambda: [*other_key(v, root)], lambda: [*two_lists(v, root)]]
+            jobs += [lambda: [*forms(v, chain)], lambda: [*words_of(v, chain)], lambda: [*pages(v, chain, root)], lambda: [*looks(v, root)],
+                     lambda: [*of_system(v)], lambda: [*example()], lambda: [*large(v)]]
             jobs += [*verifying_others.jobs(v, root)][::size(1, SAMPLED)]
             jobs += verifying_faults.jobs(v, root)
             for found in runs.map(lambda job: job(), jobs):

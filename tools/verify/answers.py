@@ -329,11 +329,12 @@ class Judge:
 
     def revokes(self, position, crl, words, concerned, is_asked):
         """Whether a list that isn't used would revoke one of the certificates that it concerns, and which: `certpath why` is asked again, at a
-        moment of the list and with a voucher for it. Nobody knows where a critical extension says how the list is to be read."""
+        moment of the list and with vouchers for it alone, since of several used lists that revoke it names the first. Nobody knows where a
+        critical extension says how the list is to be read."""
         self.asked += len(concerned) if is_asked else 0
         if not is_asked or self.asked > MOST_ASKED or any(not one.startswith(MENDED) for one in words):
             return UNKNOWN, concerned[0]
-        vouchers = certpath.Vouchers.from_text(self.signatures.vouchers.text())
+        vouchers = certpath.Vouchers()
         for holder in self.holders.certificates(crl.issuer):
             vouchers.add(holder.public_key_bytes, crl.public_bytes())
         self.workspace.vouch(vouchers)

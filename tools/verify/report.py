@@ -113,11 +113,6 @@ class Report:
         found.is_checked = self.is_checked
         return found
 
-    def revokers(self):
-        """Which lists revoke which certificates: pairs of positions, the certificate's first."""
-        found = {(node.position, REVOKED.fullmatch(why)) for node in self.nodes.values() for whys in node.links.values() for why in whys}
-        return {(position, int(entry[1])) for position, entry in found if entry}
-
     def is_too_long(self):
         """Whether a way of good links and certificates leads to an anchor although there is no path: then a path length is in its
         way."""

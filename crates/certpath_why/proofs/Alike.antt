@@ -5,6 +5,7 @@ use Rattle.std.specs.List.{Contains}
 use Rattle.std.proofs.Math.Logic.{∥∥₁_elim}
 use Rattle.std.proofs.lemmas.List.{get_or_default}
 use Rattle.jiff_core.specs.declared.civil.datetime.DateTime.{DateTime}
+use Rattle.cert_graph.proofs.PlacesOfNodes.{element_at}
 use Rattle.cert_graph.specs.Entries.{IsAt}
 use Rattle.cert_model.specs.Fields.{Certificate}
 use Rattle.cert_model.specs.Octets.{name_octets, key_octets}
@@ -26,6 +27,7 @@ use Rattle.certpath_why.specs.Holders.{IsInRow}
 use Rattle.certpath_why.specs.Classes.{number_at}
 use Rattle.certpath_why.specs.Kinds.{AreTails, IsKind, lines_of, named_by}
 use Rattle.certpath_why.specs.Reached.{HasSubject}
+use Rattle.certpath_why.specs.RevokingRows.{ArePlacesOf}
 use Rattle.certpath_why.specs.Signers.{IsSignedBy, AreSignedFirsts}
 use Rattle.certpath_why.specs.Why.{IsLinkedTo, FailsTo, IsLinkedToAnchor, FailsToAnchor}
 use Rattle.certpath_why.specs.declared.classes.Classes.{Classes}
@@ -58,18 +60,20 @@ in_row c h p q n m w same name i = (
   λ o. let a = i.2 o in (a.0 ∙ name, a.1),
 )
 
-pub alike : (V : Vouching) (moment : DateTime) (xs ys : List ReadItem) (c : Classes) (firsts : List ℕ) (Agree : Certificate → Certificate → Type 0) (n m : Option (List ℕ)) (p q : ℕ) (x y : CertificateItem) (kind : List ℕ)
+pub alike : (V : Vouching) (moment : DateTime) (xs ys : List ReadItem) (c : Classes) (rows : List (Vec ℕ Global)) (firsts : List ℕ) (Agree : Certificate → Certificate → Type 0) (n m : Option (List ℕ)) (p q : ℕ) (x y : CertificateItem) (kind : List ℕ)
     → AreSignedFirsts V.Vouches xs ys c firsts → IsAt xs p (λ z. z ≡ certificate_read x) → IsAt xs q (λ z. z ≡ certificate_read y)
-    → IsKind xs (map item_of ys) moment c firsts n p x kind → IsKind xs (map item_of ys) moment c firsts m q y kind
+    → IsKind xs (map item_of ys) moment c rows firsts n p x kind → IsKind xs (map item_of ys) moment c rows firsts m q y kind
     → (n ≡ m → (d : Certificate) → Agree (certificate_of x) d ↔ Agree (certificate_of y) d)
     → AreAlike V moment xs (map item_of ys) Agree x y
-alike V moment xs ys c firsts Agree n m p q x y kind are at bt a b agree =
+alike V moment xs ys c rows firsts Agree n m p q x y kind are at bt a b agree =
     let h = are.holders in
     let signed = are.signed_are in
-    let parts = kind_parts a.first b.first (number_at c firsts p) (number_at c firsts q) a.revoking b.revoking n m (sym a.kind_is ∙ b.kind_is) in
+    let parts = kind_parts a.first b.first (number_at c firsts p) (number_at c firsts q) a.row b.row n m (sym a.kind_is ∙ b.kind_is) in
     let first = parts.0 in
     let named = parts.3 in
-    let lists = parts.2 in
+    let d = (element_at rows a.row a.row_is.0).0 in
+    let mine = a.row_is.1 d in
+    let yours = subst (λ k. ArePlacesOf xs moment y (get_or rows k d).items) (sym parts.2) (b.row_is.1 d) in
     let same = (firsts_iff h.rows.items firsts are.firsts_are (get_or c.numbers.items p 0) (get_or c.numbers.items q 0) (signed_row V.Vouches xs ys c h signed p at.0) (signed_row V.Vouches xs ys c h signed q bt.0)).0 parts.1 in
     let name : x.issuer.now ≡ y.issuer.now = one_subject (map item_of ys) b.first x.issuer.now y.issuer.now (subst (HasSubject (map item_of ys) x.issuer.now) first a.first_is) b.first_is in
     record {
@@ -82,8 +86,8 @@ alike V moment xs ys c firsts Agree n m p q x y kind are at bt a b agree =
             λ s. one.0 (in_row c h q p y.issuer.now x.issuer.now w (λ r. sym (same r)) (sym name) (two.1 s)),
           );
       revoked = λ s. (
-        λ g. (b.revoking_are.exact s).0 (subst (λ l. Contains l s) lists ((a.revoking_are.exact s).1 g)),
-        λ g. (a.revoking_are.exact s).0 (subst (λ l. Contains l s) (sym lists) ((b.revoking_are.exact s).1 g)),
+        λ g. (yours.exact s).0 ((mine.exact s).1 g),
+        λ g. (mine.exact s).0 ((yours.exact s).1 g),
       );
     }
 
@@ -211,14 +215,14 @@ module _ (V : Vouching) (moment : DateTime) (demand : Bool) (xs : List ReadItem)
       → IsLinkedTo (rules_by moment demand V) (map item_of xs) (certificate_item y) w
   linked_alike x y a w h = linked_from y w (issues_alike V moment demand xs (map item_of xs) KeyIdsAgree x y a w (linked_to x w h))
 
-  pub items_alike : (c : Classes) (firsts : List ℕ) (p q : ℕ) (x y : CertificateItem) (kind : Vec ℕ Global) (tails : List (String Global)) → AreSignedFirsts V.Vouches xs xs c firsts → IsAt xs p (λ z. z ≡ certificate_read x) → IsAt xs q (λ z. z ≡ certificate_read y)
-      → IsKind xs (map item_of xs) moment c firsts (named_by x) p x kind.items → IsKind xs (map item_of xs) moment c firsts (named_by y) q y kind.items
+  pub items_alike : (c : Classes) (rows : List (Vec ℕ Global)) (firsts : List ℕ) (p q : ℕ) (x y : CertificateItem) (kind : Vec ℕ Global) (tails : List (String Global)) → AreSignedFirsts V.Vouches xs xs c firsts → IsAt xs p (λ z. z ≡ certificate_read x) → IsAt xs q (λ z. z ≡ certificate_read y)
+      → IsKind xs (map item_of xs) moment c rows firsts (named_by x) p x kind.items → IsKind xs (map item_of xs) moment c rows firsts (named_by y) q y kind.items
       → AreTails (IsLinkedTo (rules_by moment demand V) (map item_of xs) (certificate_item x)) (FailsTo (rules_by moment demand V) (map item_of xs) (certificate_item x) (certificate_of x)) tails
       → AreTails (IsLinkedTo (rules_by moment demand V) (map item_of xs) (certificate_item y)) (FailsTo (rules_by moment demand V) (map item_of xs) (certificate_item y) (certificate_of y)) tails
-  items_alike c firsts p q x y kind tails are at bt a b t front =
+  items_alike c rows firsts p q x y kind tails are at bt a b t front =
       let r = rules_by moment demand V in
       let items = map item_of xs in
-      let same = alike V moment xs xs c firsts KeyIdsAgree (named_by x) (named_by y) p q x y kind.items are at bt a b (agree_alike x y) in
+      let same = alike V moment xs xs c rows firsts KeyIdsAgree (named_by x) (named_by y) p q x y kind.items are at bt a b (agree_alike x y) in
       let back = turned same in
       groups_as front (IsLinkedTo r items (certificate_item x)) (IsLinkedTo r items (certificate_item y)) (FailsTo r items (certificate_item x) (certificate_of x)) (FailsTo r items (certificate_item y) (certificate_of y)) (lines_of front tails)
       (λ w. (linked_alike x y same w, linked_alike y x back w))
@@ -248,15 +252,15 @@ module _ (V : Vouching) (moment : DateTime) (demand : Bool) (xs ys : List ReadIt
       → IsLinkedToAnchor (rules_by moment demand V) (map item_of xs) (map item_of ys) (certificate_item y) w
   anchor_alike x y a w h = anchor_from y w (issues_alike V moment demand xs (map item_of ys) anyhow x y a w (anchor_to x w h))
 
-  pub anchors_alike : (c : Classes) (firsts : List ℕ) (p q : ℕ) (x y : CertificateItem) (kind : Vec ℕ Global) (tails : List (String Global)) → AreSignedFirsts V.Vouches xs ys c firsts → IsAt xs p (λ z. z ≡ certificate_read x) → IsAt xs q (λ z. z ≡ certificate_read y)
-      → IsKind xs (map item_of ys) moment c firsts None p x kind.items → IsKind xs (map item_of ys) moment c firsts None q y kind.items
+  pub anchors_alike : (c : Classes) (rows : List (Vec ℕ Global)) (firsts : List ℕ) (p q : ℕ) (x y : CertificateItem) (kind : Vec ℕ Global) (tails : List (String Global)) → AreSignedFirsts V.Vouches xs ys c firsts → IsAt xs p (λ z. z ≡ certificate_read x) → IsAt xs q (λ z. z ≡ certificate_read y)
+      → IsKind xs (map item_of ys) moment c rows firsts None p x kind.items → IsKind xs (map item_of ys) moment c rows firsts None q y kind.items
       → AreTails (IsLinkedToAnchor (rules_by moment demand V) (map item_of xs) (map item_of ys) (certificate_item x)) (FailsToAnchor (rules_by moment demand V) (map item_of xs) (map item_of ys) (certificate_item x) (certificate_of x)) tails
       → AreTails (IsLinkedToAnchor (rules_by moment demand V) (map item_of xs) (map item_of ys) (certificate_item y)) (FailsToAnchor (rules_by moment demand V) (map item_of xs) (map item_of ys) (certificate_item y) (certificate_of y)) tails
-  anchors_alike c firsts p q x y kind tails are at bt a b t front =
+  anchors_alike c rows firsts p q x y kind tails are at bt a b t front =
       let r = rules_by moment demand V in
       let items = map item_of xs in
       let roots = map item_of ys in
-      let same = alike V moment xs ys c firsts anyhow None None p q x y kind.items are at bt a b (λ e d. ((λ u. u), (λ u. u))) in
+      let same = alike V moment xs ys c rows firsts anyhow None None p q x y kind.items are at bt a b (λ e d. ((λ u. u), (λ u. u))) in
       let back = turned same in
       groups_as front (IsLinkedToAnchor r items roots (certificate_item x)) (IsLinkedToAnchor r items roots (certificate_item y)) (FailsToAnchor r items roots (certificate_item x) (certificate_of x)) (FailsToAnchor r items roots (certificate_item y) (certificate_of y)) (lines_of front tails)
       (λ w. (anchor_alike x y same w, anchor_alike y x back w))

@@ -114,13 +114,13 @@ module _ (V : Vouching) (moment : DateTime) (demand : Bool) (xs : List ReadItem)
 -- ---- those of a group
 
 -- they are those of each certificate of the group
-pub group_alike : (V : Vouching) (moment : DateTime) (demand : Bool) (xs : List ReadItem) (c : Classes) (firsts : List ℕ) (reach : ℕ → Reach) (p q : ℕ) (x y : CertificateItem) (kind : List ℕ) (under : Issuers) → AreSignedFirsts V.Vouches xs xs c firsts
-    → IsAt xs p (λ z. z ≡ certificate_read x) → IsAt xs q (λ z. z ≡ certificate_read y) → IsKind xs (map item_of xs) moment c firsts None p x kind → IsKind xs (map item_of xs) moment c firsts None q y kind
+pub group_alike : (V : Vouching) (moment : DateTime) (demand : Bool) (xs : List ReadItem) (c : Classes) (rows : List (Vec ℕ Global)) (firsts : List ℕ) (reach : ℕ → Reach) (p q : ℕ) (x y : CertificateItem) (kind : List ℕ) (under : Issuers) → AreSignedFirsts V.Vouches xs xs c firsts
+    → IsAt xs p (λ z. z ≡ certificate_read x) → IsAt xs q (λ z. z ≡ certificate_read y) → IsKind xs (map item_of xs) moment c rows firsts None p x kind → IsKind xs (map item_of xs) moment c rows firsts None q y kind
     → AreGathered xs (MayHoldBack (rules_by moment demand V) (map item_of xs) reach x) under → AreGathered xs (MayHoldBack (rules_by moment demand V) (map item_of xs) reach y) under
-group_alike V moment demand xs c firsts reach p q x y kind under are at bt a b gathered =
+group_alike V moment demand xs c rows firsts reach p q x y kind under are at bt a b gathered =
     let r = rules_by moment demand V in
     let items = map item_of xs in
-    let there = alike V moment xs xs c firsts anyhow None None p q x y kind are at bt a b (λ e d. ((λ u. u), (λ u. u))) in
+    let there = alike V moment xs xs c rows firsts anyhow None None p q x y kind are at bt a b (λ e d. ((λ u. u), (λ u. u))) in
     let back = turned there in
     gathered_as xs (MayHoldBack r items reach x) (MayHoldBack r items reach y) under
     (λ w. (

@@ -144,13 +144,13 @@ linked_anchor_iff V moment demand xs ys x a = (
 
 -- ---- certificates that are alike
 
-pub issued_alike : (V : Vouching) (moment : DateTime) (demand : Bool) (xs ys : List ReadItem) (c : Classes) (firsts : List ℕ) (p q : ℕ) (x y : CertificateItem) (kind : Vec ℕ Global) (i : Issued) → AreSignedFirsts V.Vouches xs ys c firsts
-    → IsAt xs p (λ z. z ≡ certificate_read x) → IsAt xs q (λ z. z ≡ certificate_read y) → IsKind xs (map item_of ys) moment c firsts None p x kind.items → IsKind xs (map item_of ys) moment c firsts None q y kind.items
+pub issued_alike : (V : Vouching) (moment : DateTime) (demand : Bool) (xs ys : List ReadItem) (c : Classes) (rows : List (Vec ℕ Global)) (firsts : List ℕ) (p q : ℕ) (x y : CertificateItem) (kind : Vec ℕ Global) (i : Issued) → AreSignedFirsts V.Vouches xs ys c firsts
+    → IsAt xs p (λ z. z ≡ certificate_read x) → IsAt xs q (λ z. z ≡ certificate_read y) → IsKind xs (map item_of ys) moment c rows firsts None p x kind.items → IsKind xs (map item_of ys) moment c rows firsts None q y kind.items
     → IsIssued (rules_by moment demand V) (map item_of xs) ys x i → IsIssued (rules_by moment demand V) (map item_of xs) ys y i
-issued_alike V moment demand xs ys c firsts p q x y kind i are at bt a b is =
+issued_alike V moment demand xs ys c rows firsts p q x y kind i are at bt a b is =
     let r = rules_by moment demand V in
     let others = map item_of ys in
-    let same = alike V moment xs ys c firsts anyhow None None p q x y kind.items are at bt a b (λ e d. ((λ u. u), (λ u. u))) in
+    let same = alike V moment xs ys c rows firsts anyhow None None p q x y kind.items are at bt a b (λ e d. ((λ u. u), (λ u. u))) in
     let back = turned same in
     let unvouched : (u v : CertificateItem) → AreAlike V moment xs others anyhow u v → (w : ℕ) → IsUnvouchedAt r others u w → IsUnvouchedAt r others v w = λ u v s w f. fails_alike V moment demand xs others anyhow u v s NotVouched w f in
     let under : (u v : CertificateItem) → AreAlike V moment xs others anyhow u v → (w : ℕ) → IsIssuedAt r (map item_of xs) others u w → IsIssuedAt r (map item_of xs) others v w = λ u v s w f.

@@ -35,6 +35,8 @@ mod Searching
 mod Backing
 mod Keeping
 mod Using
+mod Revokers
+mod Rowed
 mod Writing
 mod Issues
 mod Unlike

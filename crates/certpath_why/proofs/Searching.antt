@@ -44,7 +44,7 @@ held_by_kind question search firsts reach p q x y kind are at bt a b nowhere cou
     let moment = question.policy.now.moment in
     let demand = question.policy.now.demand_lists in
     let r = rules_by moment demand search in
-    let same_links = alike search moment xs xs question.signers.now.classes firsts KeyIdsAgree (named_by y) (named_by x) q p y x kind.items are bt at b a (agree_alike y x) in
+    let same_links = alike search moment xs xs question.signers.now.classes question.revoking.now.rows.items firsts KeyIdsAgree (named_by y) (named_by x) q p y x kind.items are bt at b a (agree_alike y x) in
     let mine = (at_read (λ z. IsAt items v (IsLink r items z)) xs q y bt).1 back.linked in
     let yours = linked_alike search moment demand xs y x same_links v mine in
     record {

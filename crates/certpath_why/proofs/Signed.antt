@@ -157,7 +157,7 @@ module _ (V : List ℕ → List ℕ → Type 0) (read others : List ReadItem) (c
       signed_holder v.0 (of v.0 v.1).0 k r (subst (λ m. Contains (get_or h.rows.items m r).items k) (sym v.3) has)
 
   -- the item at a place, and who signed it
-  at_place : (name : List ℕ) (v : ℕ) → IsAt read v (λ z. issuer_name (item_of z).class ≡ Some name) → (w : ℕ) → IsInRow h (get_or c.numbers.items v 0) name w ↔ IsAt read v (λ z. IsSignedBy V (map item_of others) (item_of z) w)
+  pub at_place : (name : List ℕ) (v : ℕ) → IsAt read v (λ z. issuer_name (item_of z).class ≡ Some name) → (w : ℕ) → IsInRow h (get_or c.numbers.items v 0) name w ↔ IsAt read v (λ z. IsSignedBy V (map item_of others) (item_of z) w)
   at_place name v of w =
       let e = element read v of.0 in
       let named = (there_at read v e.0 of.0 e.1 (λ z. issuer_name (item_of z).class ≡ Some name)).1 of in

@@ -1,13 +1,13 @@
 -- The ends of lines, and lines that were written, by kinds.
 use Rattle.std.specs.Prelude.{slice_get}
-use Rattle.std.proofs.Common.{◌≡◌, ◌∙◌, ap, sym, subst, refl, ℕ, ◌+◌, ◌<◌, ◌≤◌, cond, List, [], ◌∷◌, ◌++◌, length, take, get_or, append_assoc, append-nil, Option, Some, None, Vec, Global, String, string_bytes, arith, inl, inr}
+use Rattle.std.proofs.Common.{◌≡◌, ◌∙◌, ap, sym, subst, refl, ℕ, ◌+◌, ◌<◌, ◌≤◌, cond, List, [], ◌∷◌, ◌++◌, map, length, take, get_or, append_assoc, append-nil, Option, Some, None, Vec, Global, String, string_bytes, arith, inl, inr}
 use Rattle.std.specs.List.{Contains}
 use Rattle.std.specs.List.Sorted.{IsStrictlyIncreasing}
 use Rattle.std.specs.BTreeMap as mapped
 use Rattle.std.specs.BTreeMap.{BTreeMap, is_at}
 use Rattle.std.specs.Map.{lookup}
 use Rattle.std.proofs.lemmas.Bool.{cases_Bool, cond-true, cond-false}
-use Rattle.std.proofs.lemmas.List.{take_more, take_all}
+use Rattle.std.proofs.lemmas.List.{map-append, take_more, take_all}
 use Rattle.cert_graph.specs.Entries.{IsAt}
 use Rattle.cert_graph.proofs.Gathering.{E, same}
 use Rattle.cert_judge.specs.declared.items.CertificateItem.{CertificateItem}
@@ -17,14 +17,23 @@ use Rattle.cert_reasons.specs.declared.links.Unlinked.{Unlinked}
 use Rattle.cert_reasons.specs.declared.links.Unlinked.TheVariants.{NotVouched, KeyIdsDiffer, RevokedBy, NoUsedList}
 use Rattle.certpath_why.specs.Cuts.{CutsTo, IsCutOf}
 use Rattle.certpath_why.specs.declared.cuts.Cut.{Cut}
-use Rattle.certpath_why.specs.Kinds.{AddsTails, AreTails, AreWrittenBy, kind_cmp, line_of, lines_of}
+use Rattle.certpath_why.specs.Kinds.{AddsTails, AreTails, AreWrittenBy, IsCopied, kind_cmp, line_of, lines_of}
 use Rattle.certpath_why.specs.Lines.{link_end, link_lines}
 use Rattle.certpath_why.specs.Listed.{listed}
 use Rattle.certpath_why.specs.Ranges.{AreRanges, range_text}
-use Rattle.certpath_why.specs.Why.{AreTexts, TellsGroup, TellsGroups}
+use Rattle.certpath_why.specs.Why.{AreTexts, RevokesFirst, TellsGroup, TellsGroups}
 use Rattle.certpath_why.specs.declared.ranges.Range.{Range}
 use Rattle.certpath_why.proofs.Fating.{line_is}
 use Rattle.certpath_why.proofs.Texts.{texts_append, texts_one}
+
+none_mapped : {x : List ℕ} {xs : List (List ℕ)} → [] ≡ x ∷ xs → ⊥
+none_mapped e = cc
+
+first_mapped : {x y : List ℕ} {xs ys : List (List ℕ)} → x ∷ xs ≡ y ∷ ys → x ≡ y
+first_mapped e = cc
+
+rest_mapped : {x y : List ℕ} {xs ys : List (List ℕ)} → x ∷ xs ≡ y ∷ ys → xs ≡ ys
+rest_mapped e = cc
 
 one_place : {a b : ℕ} → Some a ≡ Some b → a ≡ b
 one_place e = cc
@@ -72,14 +81,42 @@ tails_more P xs k d old mid new lt h t = (
 pub tails_all : {X : Type 0} (P : List ℕ → X → List ℕ → Type 0) (xs : List X) (k : ℕ) (old new : List (String Global)) → length xs ≤ k → AddsTails (λ front. AreTexts (P front) (take k xs)) old new → AddsTails (λ front. AreTexts (P front) xs) old new
 tails_all P xs k old new le h = (h.0, h.1, λ front. subst (λ l. AreTexts (P front) l (lines_of front h.0)) (take_all k xs le) (h.2 front))
 
+-- ---- copies of texts
+
+texts_same : (front : List ℕ) (a b : List (String Global)) → map (λ (s : String Global). string_bytes s) a ≡ map (λ (s : String Global). string_bytes s) b → lines_of front a ≡ lines_of front b
+texts_same front [] [] e = refl
+texts_same front [] (t ∷ b) e = absurd (none_mapped e)
+texts_same front (s ∷ a) [] e = absurd (none_mapped (sym e))
+texts_same front (s ∷ a) (t ∷ b) e = ap (λ l. (front ++ l) ++ lines_of front a) (first_mapped e) ∙ ap (λ l. line_of front t ++ l) (texts_same front a b (rest_mapped e))
+
+pub copied_tails : (P : List ℕ → List ℕ → Type 0) (old more new : List (String Global)) → IsCopied old more new → ((front : List ℕ) → P front (lines_of front more)) → AddsTails P old new
+copied_tails P old more new h p = (h.0, h.1, λ front. subst (P front) (sym (texts_same front h.0 more h.2)) (p front))
+
+pub copied_none : (old more : List (String Global)) → IsCopied old (take 0 more) old
+copied_none old more = ([], sym (append-nil old), refl)
+
+pub copied_more : (old more mid new : List (String Global)) (k : ℕ) (d copy : String Global) → k < length more → IsCopied old (take k more) mid → new ≡ mid ++ copy ∷ [] → string_bytes copy ≡ string_bytes (get_or more k d) → IsCopied old (take (k + 1) more) new
+copied_more old more mid new k d copy lt h is bytes = (
+  h.0 ++ copy ∷ [],
+  is ∙ ap (λ l. l ++ copy ∷ []) h.1 ∙ append_assoc old h.0 (copy ∷ []),
+  map-append (λ (s : String Global). string_bytes s) h.0 (copy ∷ [])
+      ∙ ap (λ l. l ++ string_bytes copy ∷ []) h.2
+      ∙ ap (λ l. map (λ (s : String Global). string_bytes s) (take k more) ++ l ∷ []) bytes
+      ∙ sym (map-append (λ (s : String Global). string_bytes s) (take k more) (get_or more k d ∷ []))
+      ∙ ap (map (λ (s : String Global). string_bytes s)) (sym (take_more more k d lt)),
+)
+
+pub copied_all : (old more new : List (String Global)) (k : ℕ) → length more ≤ k → IsCopied old (take k more) new → IsCopied old more new
+copied_all old more new k le h = subst (λ l. IsCopied old l new) (take_all k more le) h
+
 -- ---- the lines of all links
 
 two_parts : (front : List ℕ) (a b : List (String Global)) (text : List ℕ) → lines_of front b ≡ text → lines_of front (a ++ b) ≡ lines_of front a ++ text
 two_parts front a b text is = lines_append front a b ∙ ap (λ l. lines_of front a ++ l) is
 
-pub tails_told : (L : ℕ → Type 0) (F : Unlinked → ℕ → Type 0) (lists : List ℕ) (one two three four new : List (String Global)) → IsStrictlyIncreasing lists → ((p w : ℕ) → F (RevokedBy p) w → Contains lists p)
+pub tails_told : (L : ℕ → Type 0) (F : Unlinked → ℕ → Type 0) (lists : List ℕ) (one two three four new : List (String Global)) → IsStrictlyIncreasing lists → ((p w : ℕ) → RevokesFirst F p w → Contains lists p)
     → AddsTails (λ front. TellsGroup front None L) [] one → AddsTails (λ front. TellsGroup front (Some NotVouched) (F NotVouched)) one two → AddsTails (λ front. TellsGroup front (Some KeyIdsDiffer) (F KeyIdsDiffer)) two three
-    → AddsTails (λ front. AreTexts (λ p. TellsGroup front (Some (RevokedBy p)) (F (RevokedBy p))) lists) three four → AddsTails (λ front. TellsGroup front (Some NoUsedList) (F NoUsedList)) four new
+    → AddsTails (λ front. AreTexts (λ p. TellsGroup front (Some (RevokedBy p)) (RevokesFirst F p)) lists) three four → AddsTails (λ front. TellsGroup front (Some NoUsedList) (F NoUsedList)) four new
     → AreTails L F new
 tails_told L F lists one two three four new up all a b c d e front =
     let whole : new ≡ a.0 ++ (b.0 ++ (c.0 ++ (d.0 ++ e.0))) =
@@ -125,7 +162,7 @@ no_groups front L F l f = record {
   differing_is = no_group front (Some KeyIdsDiffer) (F KeyIdsDiffer) (f KeyIdsDiffer);
   lists = [];
   lists_ascend = λ k lt. absurd (omega arith);
-  lists_are_all = λ p w h. absurd (f (RevokedBy p) w h);
+  lists_are_all = λ p w h. absurd (f (RevokedBy p) w h.0);
   revoked = [];
   revoked_is = refl;
   lacking = [];

@@ -17,6 +17,6 @@ differs others x y name named w h = (h.0, λ e. let d = h.1 e in (d.0, d.1, (d.2
 
 pub differing_alike : (others : List Item) (p q : ℕ) (x y : CertificateItem) (kind : List ℕ) (cut : Cut) → IsIdKind others p x kind → IsIdKind others q y kind → IsCutOf (IsDiffering others (certificate_of x)) cut → IsCutOf (IsDiffering others (certificate_of y)) cut
 differing_alike others p q x y kind cut a b h =
-    let parts = kind_parts a.0 b.0 0 0 [] [] (named_by x) (named_by y) (sym a.2 ∙ b.2) in
+    let parts = kind_parts a.0 b.0 0 0 0 0 (named_by x) (named_by y) (sym a.2 ∙ b.2) in
     let name : x.issuer.now ≡ y.issuer.now = one_subject others b.0 x.issuer.now y.issuer.now (subst (HasSubject others x.issuer.now) parts.0 a.1) b.1 in
     cut_as (IsDiffering others (certificate_of x)) (IsDiffering others (certificate_of y)) cut (λ w. (differs others x y name parts.3 w, differs others y x (sym name) (sym parts.3) w)) h

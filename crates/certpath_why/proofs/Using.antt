@@ -158,11 +158,3 @@ listed_iff demand places having H is are w = (λ y. (y.0, λ d. (are.exact w).0 
 
 pub all_listed : (demand : Bool) (places : List ℕ) (H : ℕ → Type 0) → (demand ≡ true → ⊥) → (w : ℕ) → Contains places w ↔ (Contains places w × (demand ≡ true → H w))
 all_listed demand places H none w = (λ c. (c, λ d. absurd (none d)), λ y. y.0)
-
--- ---- signers of lists, kept by the positions of the lists
-
-abbrev pub AreSignersUnder : (List ℕ → List ℕ → Type 0) → List ReadItem → List Item → ℕ → Cut → Type 0
-AreSignersUnder V xs others p cut = (z : ReadItem) → IsAt xs p (λ x. x ≡ z) → IsCutOf (IsSignedBy V others (item_of z)) cut
-
-pub signers_there : (V : List ℕ → List ℕ → Type 0) (xs : List ReadItem) (others : List Item) (p : ℕ) (l : ListItem) (cut : Cut) → IsAt xs p (λ z. z ≡ list_read l) → IsCutOf (IsSignedBy V others (item_of (list_read l))) cut → AreSignersUnder V xs others p cut
-signers_there V xs others p l cut at h z there = subst (λ (y : ReadItem). IsCutOf (IsSignedBy V others (item_of y)) cut) (sym (at.1 z) ∙ there.1 z) h

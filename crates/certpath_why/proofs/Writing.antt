@@ -13,7 +13,8 @@ use Rattle.certpath_why.specs.declared.question.Question.{Question}
 use Rattle.certpath_why.specs.declared.written.Written.{Written}
 use Rattle.certpath_why.proofs.Keeping.{kept_none}
 use Rattle.certpath_why.proofs.Tailing.{written_none}
-use Rattle.certpath_why.proofs.Using.{AreSignersUnder, AreUsedUnder}
+use Rattle.certpath_why.proofs.Revokers.{AreRowTails}
+use Rattle.certpath_why.proofs.Using.{AreUsedUnder}
 
 -- nothing is under any kind
 pub none_written : {V : Type 0} (vouch : Ghosts V) (question : Question V) (written : Written) → HasNone written → AreWritten vouch question written
@@ -22,12 +23,12 @@ none_written vouch question written none = record {
     tails = written_none question.found.now.items.now (IsItemKind question) (λ x (tails : Vec (String Global) Global). AreItemTails vouch question x tails.items) written.items.tails none.items.tails;
     issued = written_none question.found.now.items.now (IsGroupKind question) (IsIssued (rules_in vouch question) (items_in question) question.found.now.items.now) written.items.issued none.items.issued;
     used = kept_none (AreUsedUnder (rules_in vouch question) (items_in question) (items_in question)) written.items.used none.items.used;
-    lists = kept_none (AreSignersUnder (vouch.vouches_for question.vouch.now).Vouches question.found.now.items.now (items_in question)) written.items.lists none.items.lists;
+    revoked = kept_none (AreRowTails (vouch.vouches_for question.vouch.now).Vouches question.found.now.items.now (items_in question) question.revoking.now.rows.items) written.items.revoked none.items.revoked;
     differing = written_none question.found.now.items.now (IsIdKind (items_in question)) (λ x (cut : Cut). IsCutOf (IsDiffering (items_in question) (certificate_of x)) cut) written.items.differing none.items.differing;
   };
   anchors = record {
     tails = written_none question.found.now.items.now (IsAnchorKind question) (λ x (tails : Vec (String Global) Global). AreAnchorTails vouch question x tails.items) written.anchors.tails none.anchors.tails;
     used = kept_none (AreUsedUnder (rules_in vouch question) (items_in question) (anchors_in question)) written.anchors.used none.anchors.used;
-    lists = kept_none (AreSignersUnder (vouch.vouches_for question.vouch.now).Vouches question.found.now.items.now (anchors_in question)) written.anchors.lists none.anchors.lists;
+    revoked = kept_none (AreRowTails (vouch.vouches_for question.vouch.now).Vouches question.found.now.items.now (anchors_in question) question.revoking.now.rows.items) written.anchors.revoked none.anchors.revoked;
   };
 }

@@ -1,5 +1,5 @@
 -- Links of one certificate, brought together by what is said of them. Contracts of private functions cite it.
-use Rattle.std.specs.Prelude.{◌≡◌, ℕ, List, [], Vec}
+use Rattle.std.specs.Prelude.{◌≡◌, ℕ, List, Vec}
 use Rattle.std.specs.BTreeMap.{BTreeMap}
 use Rattle.std.specs.declared.alloc.Global.{Global}
 use Rattle.cert_model.specs.Fields.{Certificate}
@@ -24,7 +24,7 @@ IsDiffering items c w = IsAt items w (IsCertificateWith (λ d. (name_octets d.su
 
 -- a kind by the key identifier that a certificate names, and by the position of one of its issuer's name
 abbrev pub IsIdKind : List Item → ℕ → CertificateItem → List ℕ → Type 0
-IsIdKind others p x kind = (first : ℕ) × HasSubject others x.issuer.now first × (kind ≡ kind_numbers first 0 [] (named_by x))
+IsIdKind others p x kind = (first : ℕ) × HasSubject others x.issuer.now first × (kind ≡ kind_numbers first 0 0 (named_by x))
 
 -- what is under such a kind are those that differ
 abbrev pub AreDifferingKept : List ReadItem → List Item → BTreeMap (Vec ℕ Global) Cut → Type 0

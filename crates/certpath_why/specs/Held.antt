@@ -27,11 +27,11 @@ use Rattle.certpath_why.specs.declared.question.Question.{Question}
 
 -- a kind by its links to certificates, by the numbers that what vouches in a search gives
 abbrev pub IsSearchKind : {V : Type 0} → Question V → List ℕ → ℕ → CertificateItem → List ℕ → Type 0
-IsSearchKind question firsts p x kind = IsKind question.found.now.items.now (items_in question) question.policy.now.moment question.signers.now.classes firsts (named_by x) p x kind
+IsSearchKind question firsts p x kind = IsKind question.found.now.items.now (items_in question) question.policy.now.moment question.signers.now.classes question.revoking.now.rows.items firsts (named_by x) p x kind
 
 -- likewise, whatever key identifier it names
 abbrev pub IsSearchGroup : {V : Type 0} → Question V → List ℕ → ℕ → CertificateItem → List ℕ → Type 0
-IsSearchGroup question firsts p x kind = IsKind question.found.now.items.now (items_in question) question.policy.now.moment question.signers.now.classes firsts None p x kind
+IsSearchGroup question firsts p x kind = IsKind question.found.now.items.now (items_in question) question.policy.now.moment question.signers.now.classes question.revoking.now.rows.items firsts None p x kind
 
 -- the numbers of a search are those by what vouches in it
 abbrev pub AreSearchFirsts : {V : Type 0} → Question V → Vouching → List ℕ → Type 0

@@ -1,5 +1,5 @@
 -- What the lines of links depend on, and the lines themselves. Contracts of private functions cite it.
-use Rattle.std.specs.Prelude.{◌≡◌, ℕ, List, [], ◌∷◌, ◌++◌, length, option_map, Option, Some, None, Vec, String, string_bytes}
+use Rattle.std.specs.Prelude.{◌≡◌, ℕ, List, [], ◌∷◌, ◌++◌, map, option_map, Option, Some, None, Vec, String, string_bytes}
 use Rattle.std.specs.List.{flat_map}
 use Rattle.std.specs.Ordering.{nat_cmp}
 use Rattle.std.specs.declared.cmp.Ordering.{Ordering}
@@ -16,10 +16,10 @@ use Rattle.cert_judge.specs.declared.vouch.Vouch.{Ghosts}
 use Rattle.cert_judge.specs.Items.{certificate_of, certificate_item}
 use Rattle.cert_judge.specs.Revoking.{Item}
 use Rattle.cert_reasons.specs.declared.links.Unlinked.{Unlinked}
-use Rattle.cert_reasons.specs.Listed.{ArePlaces, IsInForceAt, HasSerialAt}
 use Rattle.certpath_why.specs.Classes.{number_at}
 use Rattle.certpath_why.specs.Question.{anchors_in, items_in, rules_in}
 use Rattle.certpath_why.specs.Reached.{HasSubject}
+use Rattle.certpath_why.specs.RevokingRows.{IsRowOf}
 use Rattle.certpath_why.specs.Why.{AreLinkLines, IsLinkedTo, FailsTo, IsLinkedToAnchor, FailsToAnchor}
 use Rattle.certpath_why.specs.declared.classes.Classes.{Classes}
 use Rattle.certpath_why.specs.declared.question.Question.{Question}
@@ -41,6 +41,10 @@ AreTails Linked Fails tails = (front : List ℕ) → AreLinkLines front Linked F
 abbrev pub AddsTails : (List ℕ → List ℕ → Type 0) → List (String Global) → List (String Global) → Type 0
 AddsTails IsText old new = (more : List (String Global)) × (new ≡ old ++ more) × ((front : List ℕ) → IsText front (lines_of front more))
 
+-- copies of texts were added
+abbrev pub IsCopied : List (String Global) → List (String Global) → List (String Global) → Type 0
+IsCopied old more new = (copies : List (String Global)) × (new ≡ old ++ copies) × (map (λ (s : String Global). string_bytes s) copies ≡ map (λ (s : String Global). string_bytes s) more)
+
 -- ---- kinds
 
 -- a key identifier, if there is one
@@ -48,12 +52,8 @@ abbrev pub named_numbers : Option (List ℕ) → List ℕ
 named_numbers None = []
 named_numbers (Some id) = 1 ∷ id
 
--- a row with its length before it
-abbrev pub row_numbers : List ℕ → List ℕ
-row_numbers row = length row ∷ row
-
-abbrev pub kind_numbers : ℕ → ℕ → List ℕ → Option (List ℕ) → List ℕ
-kind_numbers first signed revoking named = first ∷ signed ∷ (row_numbers revoking ++ named_numbers named)
+abbrev pub kind_numbers : ℕ → ℕ → ℕ → Option (List ℕ) → List ℕ
+kind_numbers first signed row named = first ∷ signed ∷ row ∷ named_numbers named
 
 abbrev pub kind_cmp : Vec ℕ Global → Vec ℕ Global → Ordering
 kind_cmp a b = slice_cmp nat_cmp a.items b.items
@@ -63,24 +63,24 @@ abbrev pub named_by : CertificateItem → Option (List ℕ)
 named_by x = option_map (λ s. s.now) x.authority_key_id
 
 -- The numbers of a certificate's kind: the position of one of its issuer's name, the number that it has in common with those
--- for which the keys of the same holders vouch, the lists in force that have its serial number, and a key identifier.
-pub record IsKind (xs : List ReadItem) (others : List Item) (moment : DateTime) (classes : Classes) (firsts : List ℕ) (named : Option (List ℕ)) (p : ℕ) (x : CertificateItem) (kind : List ℕ) : Type 0 where
+-- for which the keys of the same holders vouch, that of the row of the lists in force that have its serial number, and a key identifier.
+pub record IsKind (xs : List ReadItem) (others : List Item) (moment : DateTime) (classes : Classes) (rows : List (Vec ℕ Global)) (firsts : List ℕ) (named : Option (List ℕ)) (p : ℕ) (x : CertificateItem) (kind : List ℕ) : Type 0 where
   pub first : ℕ
   pub first_is : HasSubject others x.issuer.now first
-  pub revoking : List ℕ
-  pub revoking_are : ArePlaces (λ s. IsInForceAt xs moment x.issuer.now s × HasSerialAt xs x.fields.serial.now s) revoking
-  pub kind_is : kind ≡ kind_numbers first (number_at classes firsts p) revoking named
+  pub row : ℕ
+  pub row_is : IsRowOf xs moment rows x row
+  pub kind_is : kind ≡ kind_numbers first (number_at classes firsts p) row named
 
 abbrev pub IsItemKind : {V : Type 0} → Question V → ℕ → CertificateItem → List ℕ → Type 0
-IsItemKind question p x kind = IsKind question.found.now.items.now (items_in question) question.policy.now.moment question.signers.now.classes question.signers.now.issuer_firsts.items (named_by x) p x kind
+IsItemKind question p x kind = IsKind question.found.now.items.now (items_in question) question.policy.now.moment question.signers.now.classes question.revoking.now.rows.items question.signers.now.issuer_firsts.items (named_by x) p x kind
 
 -- the kind of a certificate among items, whatever key identifier it names
 abbrev pub IsGroupKind : {V : Type 0} → Question V → ℕ → CertificateItem → List ℕ → Type 0
-IsGroupKind question p x kind = IsKind question.found.now.items.now (items_in question) question.policy.now.moment question.signers.now.classes question.signers.now.issuer_firsts.items None p x kind
+IsGroupKind question p x kind = IsKind question.found.now.items.now (items_in question) question.policy.now.moment question.signers.now.classes question.revoking.now.rows.items question.signers.now.issuer_firsts.items None p x kind
 
 -- of an anchor the key identifier doesn't count
 abbrev pub IsAnchorKind : {V : Type 0} → Question V → ℕ → CertificateItem → List ℕ → Type 0
-IsAnchorKind question p x kind = IsKind question.found.now.items.now (anchors_in question) question.policy.now.moment question.signers.now.classes question.signers.now.root_firsts.items None p x kind
+IsAnchorKind question p x kind = IsKind question.found.now.items.now (anchors_in question) question.policy.now.moment question.signers.now.classes question.revoking.now.rows.items question.signers.now.root_firsts.items None p x kind
 
 -- ---- lines by kinds
 

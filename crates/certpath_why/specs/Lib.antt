@@ -34,3 +34,5 @@ pub mod Sides
 pub mod Used
 pub mod Issuing
 pub mod Revoked
+pub mod RevokingRows
+pub mod SerialRows

@@ -1,13 +1,16 @@
 -- What a question is about. Contracts of private functions cite it.
-use Rattle.std.specs.Prelude.{List, map}
+use Rattle.std.specs.Prelude.{ℕ, List, map}
 use Rattle.cert_judge.specs.Items.{item_of, rules_by}
 use Rattle.cert_judge.specs.Revoking.{Item, JudgingContext}
+use Rattle.cert_judge.specs.declared.items.CertificateItem.{CertificateItem}
 use Rattle.cert_judge.specs.declared.vouch.Vouch.{Ghosts}
 use Rattle.cert_reasons.specs.declared.linking.Linking.{Linking}
 use Rattle.certpath_why.specs.ByIssuer.{AreByIssuer}
 use Rattle.certpath_why.specs.Named.{AreNamed}
+use Rattle.certpath_why.specs.RevokingRows.{AreRevoking, AreRevokersOf, IsRowOf}
 use Rattle.certpath_why.specs.Signers.{AreSignedBy, AreSignedFirsts}
 use Rattle.certpath_why.specs.declared.question.Question.{Question}
+use Rattle.certpath_why.specs.declared.revoking.Revokers.{Revokers}
 
 -- the items and the anchors that were read
 abbrev pub items_in : {V : Type 0} → Question V → List Item
@@ -30,6 +33,18 @@ link_items linking = map item_of linking.items.now
 -- the lists in force are those at the moment
 abbrev pub IsListed : {V : Type 0} → Question V → Type 0
 IsListed question = AreByIssuer question.found.now.items.now question.policy.now.moment question.lists.now
+
+-- the rows of lists are those of the certificates
+abbrev pub IsRevoking : {V : Type 0} → Question V → Type 0
+IsRevoking question = AreRevoking question.found.now.items.now question.policy.now.moment question.revoking.now
+
+-- a row of this number is that of a certificate
+abbrev pub IsRow : {V : Type 0} → Question V → CertificateItem → ℕ → Type 0
+IsRow question x n = IsRowOf question.found.now.items.now question.policy.now.moment question.revoking.now.rows.items x n
+
+-- the lists are those of a certificate's row
+abbrev pub AreRevokers : {V : Type 0} → Question V → CertificateItem → Revokers → Type 0
+AreRevokers question x r = AreRevokersOf question.found.now.items.now question.policy.now.moment question.revoking.now.rows.items x r
 
 -- the certificates of names of issuers are those among the items and the anchors
 abbrev pub IsNamed : {V : Type 0} → Question V → Type 0

@@ -1,7 +1,7 @@
 -- What prevents a path: the lines of a certificate, of a list, and the whole. A text is related
 -- to the items by the definitions of reasons, each list of which is exact and in its order. This page is to
 -- be believed.
-use Rattle.std.specs.Prelude.{◌≡◌, ◌↔◌, ◌⊎◌, ℕ, zero, suc, nat_eq, Bool, if◌then◌else◌, List, [], ◌∷◌, ◌++◌, length, map, Contains, Option, Some, None}
+use Rattle.std.specs.Prelude.{◌≡◌, ◌↔◌, ◌⊎◌, ◌<◌, ℕ, zero, suc, nat_eq, Bool, if◌then◌else◌, List, [], ◌∷◌, ◌++◌, length, map, Contains, Option, Some, None}
 use Rattle.std.specs.List.{flat_map}
 use Rattle.std.specs.List.Sorted.{IsStrictlyIncreasing}
 use Rattle.cert_graph.specs.Entries.{IsAt}
@@ -48,8 +48,12 @@ AreNoIssuerLines is_target v c text =
 abbrev pub TellsGroup : List ℕ → Option Unlinked → (ℕ → Type 0) → List ℕ → Type 0
 TellsGroup front what P text = (ranges : List Range) × AreRanges P ranges × (text ≡ link_lines front what ranges)
 
--- To which positions a certificate is linked, and then for each reason to which it is not. The lists are those that revoke it for
--- one of the positions, and it may be others: of a list that revokes it for none there is no line.
+-- a list revokes it for a position, and none before it does: the first that revokes ends the matter (RFC 5280, 6.3.3)
+abbrev pub RevokesFirst : (Unlinked → ℕ → Type 0) → ℕ → ℕ → Type 0
+RevokesFirst Fails p w = Fails (RevokedBy p) w × ((q : ℕ) → q < p → Fails (RevokedBy q) w → ⊥)
+
+-- To which positions a certificate is linked, and then for each reason to which it is not. The lists are those that are the first to
+-- revoke it for one of the positions, and it may be others: of a list that is the first for none there is no line.
 pub record TellsGroups (front : List ℕ) (Linked : ℕ → Type 0) (Fails : Unlinked → ℕ → Type 0) (text : List ℕ) : Type 0 where
   pub linked : List ℕ
   pub linked_is : TellsGroup front None Linked linked
@@ -59,9 +63,9 @@ pub record TellsGroups (front : List ℕ) (Linked : ℕ → Type 0) (Fails : Unl
   pub differing_is : TellsGroup front (Some KeyIdsDiffer) (Fails KeyIdsDiffer) differing
   pub lists : List ℕ
   pub lists_ascend : IsStrictlyIncreasing lists
-  pub lists_are_all : (p w : ℕ) → Fails (RevokedBy p) w → Contains lists p
+  pub lists_are_all : (p w : ℕ) → RevokesFirst Fails p w → Contains lists p
   pub revoked : List ℕ
-  pub revoked_is : AreTexts (λ p. TellsGroup front (Some (RevokedBy p)) (Fails (RevokedBy p))) lists revoked
+  pub revoked_is : AreTexts (λ p. TellsGroup front (Some (RevokedBy p)) (RevokesFirst Fails p)) lists revoked
   pub lacking : List ℕ
   pub lacking_is : TellsGroup front (Some NoUsedList) (Fails NoUsedList) lacking
   pub text_is : text ≡ linked ++ (unvouched ++ (differing ++ (revoked ++ lacking)))

@@ -13,8 +13,9 @@ ghost use Rattle.certpath_why.specs.Found.{AreMarked, IsFound, IsMarked};
 ghost use Rattle.certpath_why.specs.Held.{search_rules, AreBareMarked, AreGroupsKept, AreSearchFirsts, HoldsBack, IsHeld, MayHoldBack};
 ghost use Rattle.certpath_why.specs.Lines.{reach_lines};
 ghost use Rattle.certpath_why.specs.Named.{AreGathered};
-ghost use Rattle.certpath_why.specs.Question.{items_in, link_items, link_rules, IsListed, IsSigned};
+ghost use Rattle.certpath_why.specs.Question.{items_in, link_items, link_rules, IsListed, IsRevoking, IsRow, IsSigned};
 ghost use Rattle.certpath_why.specs.Reached.{ArePositions, HasSubject, IsCertificateAt, IsFurther};
+ghost use Rattle.certpath_why.specs.RevokingRows.{HasNumber};
 
 use crate::found::certificate_at;
 use crate::issuing::named_among;
@@ -157,20 +158,19 @@ fn holding_of<'a, V: Vouch, S: Vouch>(
     searched: &Searched<'_, S>,
     place: usize,
     certificate: &CertificateItem<'a>,
-    linking: &Linking<'_, '_>,
 ) -> Result<Issuers<'a>, AllocError>
     requires signed { IsSigned V.Vouch question.now }
     requires less { (key item : List ℕ) → (S.vouches_for searched.now.vouch.now).Vouches key item → (V.vouches_for question.now.vouch.now).Vouches key item }
     requires at { IsAt question.now.found.now.items.now place (λ x. x ≡ certificate_read certificate.now) }
-    requires lists { HasItsLists linking.now }
-    requires items { linking.now.items.now ≡ question.now.found.now.items.now }
-    requires certificate { linking.now.certificate.now ≡ certificate.now }
-    requires policy { linking.now.policy ≡ question.now.policy.now }
+    requires known { IsFound question.now.found.now }
+    requires listed { IsListed question.now }
     ensures { IfOk result (AreGathered question.now.found.now.items.now
         (MayHoldBack (search_rules question.now (S.vouches_for searched.now.vouch.now)) (items_in question.now) (reach_by searched.now.answer.now) certificate.now)) }
 {
+    let found = question.found;
+    let linking = found.linking(alloc, question.lists, certificate, question.policy)?;
     let signers = issuers_at(alloc, question, place, certificate.issuer)?;
-    let holding = holding_among(alloc, searched.answer, linking, &signers, searched.vouch)?;
+    let holding = holding_among(alloc, searched.answer, &linking, &signers, searched.vouch)?;
     let under = Issuers::new(alloc, question.found.items, &holding)?;
     Ok(under)
 }
@@ -196,7 +196,7 @@ fn mark_among<'a, V: Vouch, S: Vouch>(
     searched: &Searched<'_, S>,
     place: usize,
     certificate: &CertificateItem<'a>,
-    linking: &Linking<'_, '_>,
+    row: usize,
     first: usize,
 ) -> Result<(), AllocError>
     requires groups { AreGroupsKept question.now (S.vouches_for searched.now.vouch.now) searched.now.firsts.now (reach_by searched.now.answer.now) groups.old }
@@ -205,10 +205,9 @@ fn mark_among<'a, V: Vouch, S: Vouch>(
     requires less { (key item : List ℕ) → (S.vouches_for searched.now.vouch.now).Vouches key item → (V.vouches_for question.now.vouch.now).Vouches key item }
     requires firsts { AreSearchFirsts question.now (S.vouches_for searched.now.vouch.now) searched.now.firsts.now }
     requires at { IsAt question.now.found.now.items.now place (λ x. x ≡ certificate_read certificate.now) }
-    requires lists { HasItsLists linking.now }
-    requires items { linking.now.items.now ≡ question.now.found.now.items.now }
-    requires certificate { linking.now.certificate.now ≡ certificate.now }
-    requires policy { linking.now.policy ≡ question.now.policy.now }
+    requires known { IsFound question.now.found.now }
+    requires listed { IsListed question.now }
+    requires row { IsRow question.now certificate.now row }
     requires first { HasSubject (items_in question.now) certificate.now.issuer.now first }
     requires count { length marks.now.items ≡ length question.now.found.now.items.now }
     ensures groups { OnOk result (AreGroupsKept question.now (S.vouches_for searched.now.vouch.now) searched.now.firsts.now (reach_by searched.now.answer.now) groups.new) }
@@ -221,7 +220,7 @@ fn mark_among<'a, V: Vouch, S: Vouch>(
         searched.firsts,
         place,
         certificate,
-        linking,
+        row,
         first,
     )?;
     if let Some(under) = groups.get(&kind) {
@@ -229,7 +228,7 @@ fn mark_among<'a, V: Vouch, S: Vouch>(
         mark_all(marks, &named);
         return Ok(());
     }
-    let under = holding_of(alloc, question, searched, place, certificate, linking)?;
+    let under = holding_of(alloc, question, searched, place, certificate)?;
     let named = named_among(alloc, certificate, &under)?;
     mark_all(marks, &under.bare);
     mark_all(marks, &named);
@@ -250,6 +249,8 @@ fn mark_from<'a, V: Vouch, S: Vouch>(
     requires known { IsFound question.now.found.now }
     requires signed { IsSigned V.Vouch question.now }
     requires listed { IsListed question.now }
+    requires rows { IsRevoking question.now }
+    requires number { HasNumber question.now.revoking.now.numbers place }
     requires less { (key item : List ℕ) → (S.vouches_for searched.now.vouch.now).Vouches key item → (V.vouches_for question.now.vouch.now).Vouches key item }
     requires certificate { IsCertificateAt (items_in question.now) place }
     requires firsts { AreSearchFirsts question.now (S.vouches_for searched.now.vouch.now) searched.now.firsts.now }
@@ -267,18 +268,19 @@ fn mark_from<'a, V: Vouch, S: Vouch>(
     if !is_counted(certificate) {
         return Ok(());
     }
-    let found = question.found;
-    let Some(first) = found.issuers(certificate.issuer).first() else {
+    let Some(first) = question.found.issuers(certificate.issuer).first() else {
         return Ok(());
     };
-    let linking = found.linking(alloc, question.lists, certificate, question.policy)?;
+    let Some(revokers) = question.revoking.of(place) else {
+        return Ok(());
+    };
     let kind = held_kind(
         alloc,
         question,
         searched.firsts,
         place,
         certificate,
-        &linking,
+        revokers.number,
         *first,
     )?;
     if held.done.contains(&kind) {
@@ -292,7 +294,7 @@ fn mark_from<'a, V: Vouch, S: Vouch>(
         searched,
         place,
         certificate,
-        &linking,
+        revokers.number,
         *first,
     )?;
     held.done.insert(kind)?;
@@ -310,6 +312,8 @@ fn bound_marks<V: Vouch, S: Vouch>(
     requires known { IsFound question.now.found.now }
     requires signed { IsSigned V.Vouch question.now }
     requires listed { IsListed question.now }
+    requires rows { IsRevoking question.now }
+    requires reached { (p : ℕ) → Contains further.now p → HasNumber question.now.revoking.now.numbers p }
     requires less { (key item : List ℕ) → (S.vouches_for search.now).Vouches key item → (V.vouches_for question.now.vouch.now).Vouches key item }
     requires further { ArePositions (IsFurther (items_in question.now) question.now.target) further.now }
     ensures { IfOk result (λ marks. (v : ℕ) → IsMarked marks.items v ↔ ((w : ℕ) × Contains further.now w
@@ -347,6 +351,8 @@ pub(crate) fn bound_among<V: Vouch, S: Vouch>(
     requires known { IsFound question.now.found.now }
     requires signed { IsSigned V.Vouch question.now }
     requires listed { IsListed question.now }
+    requires rows { IsRevoking question.now }
+    requires reached { (p : ℕ) → Contains further.now p → HasNumber question.now.revoking.now.numbers p }
     requires less { (key item : List ℕ) → (S.vouches_for search.now).Vouches key item → (V.vouches_for question.now.vouch.now).Vouches key item }
     requires further { ArePositions (IsFurther (items_in question.now) question.now.target) further.now }
     ensures { IfOk result (λ bound. ArePositions (IsBound (rules_by question.now.policy.now.moment question.now.policy.now.demand_lists (S.vouches_for search.now))

@@ -6,16 +6,16 @@ ghost use Rattle.cert_graph.specs.Entries.{IsAt};
 ghost use Rattle.cert_model.specs.Octets.{name_octets};
 ghost use Rattle.cert_judge.specs.Items.{certificate_of, certificate_item};
 ghost use Rattle.cert_judge.specs.declared.items.ReadItem.TheVariants.{Certificate as certificate_read};
-ghost use Rattle.cert_reasons.specs.Linking.{HasItsLists};
 ghost use Rattle.certpath_why.specs.Reached.{ArePositions, HasSubject, IsCertificateAt};
 ghost use Rattle.certpath_why.specs.Lines.{missing_line, to_items, to_anchors};
-ghost use Rattle.certpath_why.specs.Question.{anchors_in, items_in, rules_in, IsListed, IsNamed, IsSigned};
+ghost use Rattle.certpath_why.specs.Question.{anchors_in, items_in, rules_in, AreRevokers, IsNamed, IsRevoking, IsSigned};
 ghost use Rattle.certpath_why.specs.Why.{AreUnusableLines, AreNoIssuerLines, TellsGroups, IsLinkedTo, FailsTo, IsLinkedToAnchor, FailsToAnchor, missing_lines, TellsLinks, TellsCertificate, TellsAt, octets_at};
 ghost use Rattle.certpath_why.specs.Found.{IsFound};
 ghost use Rattle.certpath_why.specs.Groups.{AreGroups};
 ghost use Rattle.certpath_why.specs.Appended.{Appends};
 ghost use Rattle.certpath_why.specs.Issuing.{IsIssued};
 ghost use Rattle.certpath_why.specs.Kinds.{AreAnchorTails, AreItemTails};
+ghost use Rattle.certpath_why.specs.RevokingRows.{HasNumber};
 ghost use Rattle.certpath_why.specs.Sides.{IsSide};
 ghost use Rattle.certpath_why.specs.Used.{AreUsedKept};
 ghost use Rattle.certpath_why.specs.Written.{AreAnchorsWritten, AreItemsWritten, AreWritten};
@@ -30,13 +30,14 @@ use crate::lines::{push_all_no_issuer, push_all_unusable, push_missing, push_sub
 use crate::links::{Front, Groups, add_cut, push_tails};
 use crate::named::Issuers;
 use crate::question::Question;
-use crate::revoked::{add_revoked, add_root_revoked};
+use crate::revoked::add_revoked;
+use crate::revoking::Revokers;
 use crate::side::Side;
 use crate::used::{Used, add_lacking};
 use crate::written::{Kept, Written};
 use asn1_core::OutOfMemory;
 use cert_judge::{CertificateItem, Vouch};
-use cert_reasons::{Linking, Unlinked, why_no_issuer, why_unusable};
+use cert_reasons::{Unlinked, why_no_issuer, why_unusable};
 use std::alloc::{AllocError, Global};
 use std::collections::BTreeMap;
 
@@ -106,7 +107,7 @@ fn groups_of<'a, V: Vouch>(
     side: &Side<'_, 'a>,
     place: usize,
     certificate: &CertificateItem<'a>,
-    linking: &Linking<'_, '_>,
+    revokers: Revokers<'_>,
 ) -> Result<Groups, AllocError>
     requires kept { AreItemsWritten V.Vouch question.now kept.old }
     requires known { IsFound question.now.found.now }
@@ -115,21 +116,20 @@ fn groups_of<'a, V: Vouch>(
     requires others { side.now.others.now ≡ question.now.found.now.items.now }
     requires name { side.now.name.now ≡ certificate.now.issuer.now }
     requires at { IsAt question.now.found.now.items.now place (λ x. x ≡ certificate_read certificate.now) }
-    requires lists { HasItsLists linking.now }
-    requires items { linking.now.items.now ≡ question.now.found.now.items.now }
-    requires certificate { linking.now.certificate.now ≡ certificate.now }
-    requires policy { linking.now.policy ≡ question.now.policy.now }
+    requires revokers { AreRevokers question.now certificate.now revokers }
     ensures kept { OnOk result (AreItemsWritten V.Vouch question.now kept.new) }
     ensures groups { IfOk result (AreGroups (IsLinkedTo (rules_in V.Vouch question.now) (items_in question.now) (certificate_item certificate.now))
         (FailsTo (rules_in V.Vouch question.now) (items_in question.now) (certificate_item certificate.now) (certificate_of certificate.now))) }
 {
-    let kind = group_kind(alloc, question, place, certificate, linking, side.first)?;
+    let row = revokers.number;
+    let kind = group_kind(alloc, question, place, certificate, row, side.first)?;
     if let Some(issued) = kept.issued.get(&kind) {
         let groups = groups_from(alloc, question, certificate, issued)?;
         return Ok(groups);
     }
     let used = &mut kept.used;
-    let issued = Issued::new(alloc, used, question, side, place, certificate, linking)?;
+    let lists = revokers.lists;
+    let issued = Issued::new(alloc, used, question, side, place, certificate, lists)?;
     let groups = groups_from(alloc, question, certificate, &issued)?;
     kept.issued.insert(kind, issued)?;
     Ok(groups)
@@ -144,7 +144,7 @@ fn tails_among<'a, V: Vouch>(
     side: &Side<'_, 'a>,
     place: usize,
     certificate: &CertificateItem<'a>,
-    linking: &Linking<'_, '_>,
+    revokers: Revokers<'_>,
 ) -> Result<Vec<String>, OutOfMemory>
     requires kept { AreItemsWritten V.Vouch question.now kept.old }
     requires known { IsFound question.now.found.now }
@@ -153,15 +153,11 @@ fn tails_among<'a, V: Vouch>(
     requires others { side.now.others.now ≡ question.now.found.now.items.now }
     requires name { side.now.name.now ≡ certificate.now.issuer.now }
     requires at { IsAt question.now.found.now.items.now place (λ x. x ≡ certificate_read certificate.now) }
-    requires lists { HasItsLists linking.now }
-    requires items { linking.now.items.now ≡ question.now.found.now.items.now }
-    requires certificate { linking.now.certificate.now ≡ certificate.now }
-    requires policy { linking.now.policy ≡ question.now.policy.now }
+    requires revokers { AreRevokers question.now certificate.now revokers }
     ensures kept { OnOk result (AreItemsWritten V.Vouch question.now kept.new) }
     ensures tails { IfOk result (λ tails. AreItemTails V.Vouch question.now certificate.now tails.items) }
 {
-    let groups = groups_of(alloc, kept, question, side, place, certificate, linking)?;
-    let lists = linking.revoking();
+    let groups = groups_of(alloc, kept, question, side, place, certificate, revokers)?;
     let mut tails = Vec::new(alloc);
     add_cut(&mut tails, alloc, None, &groups.linked)?;
     let unvouched = Some(Unlinked::NotVouched);
@@ -176,14 +172,8 @@ fn tails_among<'a, V: Vouch>(
         place,
         certificate,
     )?;
-    add_revoked(
-        &mut tails,
-        alloc,
-        &mut kept.lists,
-        question,
-        certificate,
-        lists,
-    )?;
+    let revoked = &mut kept.revoked;
+    add_revoked(&mut tails, alloc, revoked, question, side, revokers)?;
     add_lacking(&mut tails, alloc, &mut kept.used, question, side)?;
     Ok(tails)
 }
@@ -196,7 +186,7 @@ fn tails_to_items<'a, V: Vouch>(
     question: &Question<'_, 'a, V>,
     place: usize,
     certificate: &CertificateItem<'a>,
-    linking: &Linking<'_, '_>,
+    revokers: Revokers<'_>,
     issuers: &[usize],
     first: usize,
 ) -> Result<Vec<String>, OutOfMemory>
@@ -205,10 +195,7 @@ fn tails_to_items<'a, V: Vouch>(
     requires signed { IsSigned V.Vouch question.now }
     requires named { IsNamed question.now }
     requires at { IsAt question.now.found.now.items.now place (λ x. x ≡ certificate_read certificate.now) }
-    requires lists { HasItsLists linking.now }
-    requires items { linking.now.items.now ≡ question.now.found.now.items.now }
-    requires certificate { linking.now.certificate.now ≡ certificate.now }
-    requires policy { linking.now.policy ≡ question.now.policy.now }
+    requires revokers { AreRevokers question.now certificate.now revokers }
     requires issuers { ArePositions (HasSubject (items_in question.now) certificate.now.issuer.now) issuers.now }
     requires first { HasSubject (items_in question.now) certificate.now.issuer.now first }
     ensures kept { OnOk result (AreItemsWritten V.Vouch question.now kept.new) }
@@ -216,26 +203,29 @@ fn tails_to_items<'a, V: Vouch>(
 {
     let others = question.found.items;
     let holders = &question.signers.issuers;
+    let firsts = &question.signers.issuer_firsts;
     let name = certificate.issuer;
     if let Some(named) = question.named.issuers.of(name) {
         let side = Side {
             others,
             holders,
+            firsts,
             name,
             named,
             first,
         };
-        return tails_among(alloc, kept, question, &side, place, certificate, linking);
+        return tails_among(alloc, kept, question, &side, place, certificate, revokers);
     }
     let named = Issuers::new(alloc, others, issuers)?;
     let side = Side {
         others,
         holders,
+        firsts,
         name,
         named: &named,
         first,
     };
-    tails_among(alloc, kept, question, &side, place, certificate, linking)
+    tails_among(alloc, kept, question, &side, place, certificate, revokers)
 }
 
 /// Appends the lines of the links to all certificates of the issuer's name. They are worked out
@@ -247,7 +237,7 @@ fn tell_links<'a, V: Vouch>(
     question: &Question<'_, 'a, V>,
     place: usize,
     certificate: &CertificateItem<'a>,
-    linking: &Linking<'_, '_>,
+    revokers: Revokers<'_>,
     issuers: &[usize],
 ) -> Result<(), OutOfMemory>
     requires written { AreItemsWritten V.Vouch question.now written.old }
@@ -255,10 +245,7 @@ fn tell_links<'a, V: Vouch>(
     requires signed { IsSigned V.Vouch question.now }
     requires named { IsNamed question.now }
     requires at { IsAt question.now.found.now.items.now place (λ x. x ≡ certificate_read certificate.now) }
-    requires lists { HasItsLists linking.now }
-    requires items { linking.now.items.now ≡ question.now.found.now.items.now }
-    requires certificate { linking.now.certificate.now ≡ certificate.now }
-    requires policy { linking.now.policy ≡ question.now.policy.now }
+    requires revokers { AreRevokers question.now certificate.now revokers }
     requires issuers { ArePositions (HasSubject (items_in question.now) certificate.now.issuer.now) issuers.now }
     ensures written { OnOk result (AreItemsWritten V.Vouch question.now written.new) }
     ensures text { OnOk result (Appends (TellsGroups (to_items place) (IsLinkedTo (rules_in V.Vouch question.now) (items_in question.now) (certificate_item certificate.now))
@@ -268,7 +255,8 @@ fn tell_links<'a, V: Vouch>(
     let Some(first) = issuers.first() else {
         return Ok(());
     };
-    let kind = item_kind(alloc, question, place, certificate, linking, *first)?;
+    let row = revokers.number;
+    let kind = item_kind(alloc, question, place, certificate, row, *first)?;
     if let Some(tails) = written.tails.get(&kind) {
         push_tails(text, Front::Items(place), tails)?;
         return Ok(());
@@ -279,7 +267,7 @@ fn tell_links<'a, V: Vouch>(
         question,
         place,
         certificate,
-        linking,
+        revokers,
         issuers,
         *first,
     )?;
@@ -296,7 +284,7 @@ fn root_groups_of<'a, V: Vouch>(
     side: &Side<'_, 'a>,
     place: usize,
     certificate: &CertificateItem<'a>,
-    linking: &Linking<'_, '_>,
+    revokers: Revokers<'_>,
 ) -> Result<Groups, AllocError>
     requires used { AreUsedKept (rules_in V.Vouch question.now) (items_in question.now) (anchors_in question.now) used.old }
     requires known { IsFound question.now.found.now }
@@ -304,15 +292,13 @@ fn root_groups_of<'a, V: Vouch>(
     requires others { side.now.others.now ≡ question.now.found.now.anchors.now }
     requires name { side.now.name.now ≡ certificate.now.issuer.now }
     requires at { IsAt question.now.found.now.items.now place (λ x. x ≡ certificate_read certificate.now) }
-    requires lists { HasItsLists linking.now }
-    requires items { linking.now.items.now ≡ question.now.found.now.items.now }
-    requires certificate { linking.now.certificate.now ≡ certificate.now }
-    requires policy { linking.now.policy ≡ question.now.policy.now }
+    requires revokers { AreRevokers question.now certificate.now revokers }
     ensures used { OnOk result (AreUsedKept (rules_in V.Vouch question.now) (items_in question.now) (anchors_in question.now) used.new) }
     ensures groups { IfOk result (AreGroups (IsLinkedToAnchor (rules_in V.Vouch question.now) (items_in question.now) (anchors_in question.now) (certificate_item certificate.now))
         (FailsToAnchor (rules_in V.Vouch question.now) (items_in question.now) (anchors_in question.now) (certificate_item certificate.now) (certificate_of certificate.now))) }
 {
-    let issued = Issued::new(alloc, used, question, side, place, certificate, linking)?;
+    let lists = revokers.lists;
+    let issued = Issued::new(alloc, used, question, side, place, certificate, lists)?;
     let linked = Cut::of(alloc, &issued.under.all)?;
     let unvouched = issued.unvouched.copied(alloc)?;
     Ok(Groups { linked, unvouched })
@@ -327,7 +313,7 @@ fn root_tails_among<'a, V: Vouch>(
     side: &Side<'_, 'a>,
     place: usize,
     certificate: &CertificateItem<'a>,
-    linking: &Linking<'_, '_>,
+    revokers: Revokers<'_>,
 ) -> Result<Vec<String>, OutOfMemory>
     requires kept { AreAnchorsWritten V.Vouch question.now kept.old }
     requires known { IsFound question.now.found.now }
@@ -336,28 +322,18 @@ fn root_tails_among<'a, V: Vouch>(
     requires others { side.now.others.now ≡ question.now.found.now.anchors.now }
     requires name { side.now.name.now ≡ certificate.now.issuer.now }
     requires at { IsAt question.now.found.now.items.now place (λ x. x ≡ certificate_read certificate.now) }
-    requires lists { HasItsLists linking.now }
-    requires items { linking.now.items.now ≡ question.now.found.now.items.now }
-    requires certificate { linking.now.certificate.now ≡ certificate.now }
-    requires policy { linking.now.policy ≡ question.now.policy.now }
+    requires revokers { AreRevokers question.now certificate.now revokers }
     ensures kept { OnOk result (AreAnchorsWritten V.Vouch question.now kept.new) }
     ensures tails { IfOk result (λ tails. AreAnchorTails V.Vouch question.now certificate.now tails.items) }
 {
     let used = &mut kept.used;
-    let groups = root_groups_of(alloc, used, question, side, place, certificate, linking)?;
-    let lists = linking.revoking();
+    let groups = root_groups_of(alloc, used, question, side, place, certificate, revokers)?;
     let mut tails = Vec::new(alloc);
     add_cut(&mut tails, alloc, None, &groups.linked)?;
     let unvouched = Some(Unlinked::NotVouched);
     add_cut(&mut tails, alloc, unvouched, &groups.unvouched)?;
-    add_root_revoked(
-        &mut tails,
-        alloc,
-        &mut kept.lists,
-        question,
-        certificate,
-        lists,
-    )?;
+    let revoked = &mut kept.revoked;
+    add_revoked(&mut tails, alloc, revoked, question, side, revokers)?;
     add_lacking(&mut tails, alloc, &mut kept.used, question, side)?;
     Ok(tails)
 }
@@ -370,7 +346,7 @@ fn tails_to_anchors<'a, V: Vouch>(
     question: &Question<'_, 'a, V>,
     place: usize,
     certificate: &CertificateItem<'a>,
-    linking: &Linking<'_, '_>,
+    revokers: Revokers<'_>,
     roots: &[usize],
     first: usize,
 ) -> Result<Vec<String>, OutOfMemory>
@@ -379,10 +355,7 @@ fn tails_to_anchors<'a, V: Vouch>(
     requires signed { IsSigned V.Vouch question.now }
     requires named { IsNamed question.now }
     requires at { IsAt question.now.found.now.items.now place (λ x. x ≡ certificate_read certificate.now) }
-    requires lists { HasItsLists linking.now }
-    requires items { linking.now.items.now ≡ question.now.found.now.items.now }
-    requires certificate { linking.now.certificate.now ≡ certificate.now }
-    requires policy { linking.now.policy ≡ question.now.policy.now }
+    requires revokers { AreRevokers question.now certificate.now revokers }
     requires roots { ArePositions (HasSubject (anchors_in question.now) certificate.now.issuer.now) roots.now }
     requires first { HasSubject (anchors_in question.now) certificate.now.issuer.now first }
     ensures kept { OnOk result (AreAnchorsWritten V.Vouch question.now kept.new) }
@@ -390,26 +363,29 @@ fn tails_to_anchors<'a, V: Vouch>(
 {
     let others = question.found.anchors;
     let holders = &question.signers.roots;
+    let firsts = &question.signers.root_firsts;
     let name = certificate.issuer;
     if let Some(named) = question.named.roots.of(name) {
         let side = Side {
             others,
             holders,
+            firsts,
             name,
             named,
             first,
         };
-        return root_tails_among(alloc, kept, question, &side, place, certificate, linking);
+        return root_tails_among(alloc, kept, question, &side, place, certificate, revokers);
     }
     let named = Issuers::new(alloc, others, roots)?;
     let side = Side {
         others,
         holders,
+        firsts,
         name,
         named: &named,
         first,
     };
-    root_tails_among(alloc, kept, question, &side, place, certificate, linking)
+    root_tails_among(alloc, kept, question, &side, place, certificate, revokers)
 }
 
 /// Appends the lines of the links to all anchors of the issuer's name. They are worked out once for
@@ -421,7 +397,7 @@ fn tell_anchors<'a, V: Vouch>(
     question: &Question<'_, 'a, V>,
     place: usize,
     certificate: &CertificateItem<'a>,
-    linking: &Linking<'_, '_>,
+    revokers: Revokers<'_>,
     roots: &[usize],
 ) -> Result<(), OutOfMemory>
     requires written { AreAnchorsWritten V.Vouch question.now written.old }
@@ -429,10 +405,7 @@ fn tell_anchors<'a, V: Vouch>(
     requires signed { IsSigned V.Vouch question.now }
     requires named { IsNamed question.now }
     requires at { IsAt question.now.found.now.items.now place (λ x. x ≡ certificate_read certificate.now) }
-    requires lists { HasItsLists linking.now }
-    requires items { linking.now.items.now ≡ question.now.found.now.items.now }
-    requires certificate { linking.now.certificate.now ≡ certificate.now }
-    requires policy { linking.now.policy ≡ question.now.policy.now }
+    requires revokers { AreRevokers question.now certificate.now revokers }
     requires roots { ArePositions (HasSubject (anchors_in question.now) certificate.now.issuer.now) roots.now }
     ensures written { OnOk result (AreAnchorsWritten V.Vouch question.now written.new) }
     ensures text { OnOk result (Appends (TellsGroups (to_anchors place) (IsLinkedToAnchor (rules_in V.Vouch question.now) (items_in question.now) (anchors_in question.now) (certificate_item certificate.now))
@@ -442,7 +415,8 @@ fn tell_anchors<'a, V: Vouch>(
     let Some(first) = roots.first() else {
         return Ok(());
     };
-    let kind = anchor_kind(alloc, question, place, certificate, linking, *first)?;
+    let row = revokers.number;
+    let kind = anchor_kind(alloc, question, place, certificate, row, *first)?;
     if let Some(tails) = written.tails.get(&kind) {
         push_tails(text, Front::Anchors(place), tails)?;
         return Ok(());
@@ -453,7 +427,7 @@ fn tell_anchors<'a, V: Vouch>(
         question,
         place,
         certificate,
-        linking,
+        revokers,
         roots,
         *first,
     )?;
@@ -496,7 +470,8 @@ fn tell_all_links<'q, 'a, V: Vouch>(
     requires written { AreWritten V.Vouch question.now written.old }
     requires known { IsFound question.now.found.now }
     requires signed { IsSigned V.Vouch question.now }
-    requires listed { IsListed question.now }
+    requires rows { IsRevoking question.now }
+    requires number { HasNumber question.now.revoking.now.numbers place }
     requires named { IsNamed question.now }
     requires at { IsAt question.now.found.now.items.now place (λ x. x ≡ certificate_read certificate.now) }
     ensures written { OnOk result (AreWritten V.Vouch question.now written.new) }
@@ -507,7 +482,9 @@ fn tell_all_links<'q, 'a, V: Vouch>(
     let found = question.found;
     let issuers = found.issuers(certificate.issuer);
     let roots = found.roots(certificate.issuer);
-    let linking = found.linking(alloc, question.lists, certificate, question.policy)?;
+    let Some(revokers) = question.revoking.of(place) else {
+        return Ok(());
+    };
     tell_links(
         text,
         alloc,
@@ -515,7 +492,7 @@ fn tell_all_links<'q, 'a, V: Vouch>(
         question,
         place,
         certificate,
-        &linking,
+        revokers,
         issuers,
     )?;
     tell_anchors(
@@ -525,7 +502,7 @@ fn tell_all_links<'q, 'a, V: Vouch>(
         question,
         place,
         certificate,
-        &linking,
+        revokers,
         roots,
     )?;
     tell_missing(text, alloc, found, place, certificate, issuers, roots)?;
@@ -544,7 +521,8 @@ fn tell_certificate<'q, 'a, V: Vouch>(
     requires written { AreWritten V.Vouch question.now written.old }
     requires known { IsFound question.now.found.now }
     requires signed { IsSigned V.Vouch question.now }
-    requires listed { IsListed question.now }
+    requires rows { IsRevoking question.now }
+    requires number { HasNumber question.now.revoking.now.numbers place }
     requires named { IsNamed question.now }
     requires at { IsAt question.now.found.now.items.now place (λ x. x ≡ certificate_read certificate.now) }
     requires target { question.now.sought.target.now ≡ octets_at (items_in question.now) question.now.target }
@@ -577,7 +555,8 @@ pub(crate) fn tell_at<'a, V: Vouch>(
     requires written { AreWritten V.Vouch question.now written.old }
     requires known { IsFound question.now.found.now }
     requires signed { IsSigned V.Vouch question.now }
-    requires listed { IsListed question.now }
+    requires rows { IsRevoking question.now }
+    requires number { HasNumber question.now.revoking.now.numbers place }
     requires named { IsNamed question.now }
     requires target { question.now.sought.target.now ≡ octets_at (items_in question.now) question.now.target }
     requires certificate { IsCertificateAt (items_in question.now) place }

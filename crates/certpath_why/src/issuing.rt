@@ -6,13 +6,13 @@ ghost use Rattle.cert_graph.specs.Entries.{IsAt};
 ghost use Rattle.cert_judge.specs.Items.{item_of};
 ghost use Rattle.cert_judge.specs.declared.items.ReadItem.{ReadItem};
 ghost use Rattle.cert_judge.specs.declared.items.ReadItem.TheVariants.{Certificate as certificate_read};
-ghost use Rattle.cert_reasons.specs.Linking.{HasItsLists};
 ghost use Rattle.certpath_why.specs.Cuts.{IsCutOf};
 ghost use Rattle.certpath_why.specs.Found.{IsFound};
 ghost use Rattle.certpath_why.specs.Issuing.{AgreesAt, IsIssued};
 ghost use Rattle.certpath_why.specs.Named.{AreGathered};
 ghost use Rattle.certpath_why.specs.Question.{items_in, rules_in};
 ghost use Rattle.certpath_why.specs.Reached.{IsCertificateAt};
+ghost use Rattle.certpath_why.specs.RevokingRows.{ArePlacesOf};
 ghost use Rattle.certpath_why.specs.Sides.{others_of, IsSide};
 ghost use Rattle.certpath_why.specs.Used.{AreUsedKept};
 
@@ -26,7 +26,6 @@ use crate::sifting::outside;
 use crate::signers::{signers_at, signers_of_any};
 use crate::used::{Used, listed_among};
 use cert_judge::{CertificateItem, Vouch};
-use cert_reasons::Linking;
 use std::alloc::{AllocError, Global};
 use std::collections::BTreeMap;
 
@@ -49,22 +48,18 @@ impl<'a> Issued<'a> {
         side: &Side<'_, 'a>,
         place: usize,
         certificate: &CertificateItem<'_>,
-        linking: &Linking<'_, '_>,
+        revoking: &[usize],
     ) -> Result<Issued<'a>, AllocError>
         requires used { AreUsedKept (rules_in V.Vouch question.now) (items_in question.now) (others_of side.now) used.old }
         requires known { IsFound question.now.found.now }
         requires side { IsSide V.Vouch question.now side.now }
         requires name { side.now.name.now ≡ certificate.now.issuer.now }
         requires at { IsAt question.now.found.now.items.now place (λ x. x ≡ certificate_read certificate.now) }
-        requires lists { HasItsLists linking.now }
-        requires items { linking.now.items.now ≡ question.now.found.now.items.now }
-        requires certificate { linking.now.certificate.now ≡ certificate.now }
-        requires policy { linking.now.policy ≡ question.now.policy.now }
+        requires revoking { ArePlacesOf question.now.found.now.items.now question.now.policy.now.moment certificate.now revoking.now }
         ensures used { OnOk result (AreUsedKept (rules_in V.Vouch question.now) (items_in question.now) (others_of side.now) used.new) }
         ensures issued { IfOk result (IsIssued (rules_in V.Vouch question.now) (items_in question.now) side.now.others.now certificate.now) }
     {
         let signers = signers_at(alloc, question, side, place)?;
-        let revoking = linking.revoking();
         let revokers = signers_of_any(alloc, question, side, revoking)?;
         let against = ranges_of(alloc, &revokers)?;
         let left = outside(alloc, &signers, &against)?;

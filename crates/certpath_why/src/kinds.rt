@@ -1,30 +1,21 @@
 //! Kinds of certificates: those of one kind have equal lines of links, but for their own positions.
 //! A kind is a row of numbers that has all that the lines depend on: the issuer's name, by a
-//! position of it, the holders whose keys vouch for the certificate, by a number of their row, the
-//! lists in force that have its serial number, and the key identifier that it names.
+//! position of it, the holders whose keys vouch for the certificate and the lists in force that have
+//! its serial number, each by a number of their row, and the key identifier that it names.
 
-ghost use Rattle.std.specs.Prelude.{◌≡◌, ◌++◌, ◌<◌, [], None, option_map, length, slice_index_or, IfOk, OnOk};
-ghost use Rattle.cert_reasons.specs.Linking.{HasItsLists};
-ghost use Rattle.certpath_why.specs.Kinds.{IsKind, kind_numbers, named_by, named_numbers, row_numbers};
-ghost use Rattle.certpath_why.specs.Question.{anchors_in, items_in, IsSigned};
+ghost use Rattle.std.specs.Prelude.{◌≡◌, ◌++◌, ◌<◌, None, option_map, length, slice_index_or, IfOk, OnOk};
+ghost use Rattle.certpath_why.specs.Held.{IsSearchGroup, IsSearchKind};
+ghost use Rattle.certpath_why.specs.Kinds.{IsAnchorKind, IsGroupKind, IsItemKind, kind_numbers, named_by, named_numbers};
+ghost use Rattle.certpath_why.specs.Question.{anchors_in, items_in, IsRow, IsSigned};
 ghost use Rattle.certpath_why.specs.Reached.{HasSubject};
 
 use crate::question::Question;
 use crate::signers::{issuers_number, roots_number};
 use cert_judge::{CertificateItem, Vouch};
-use cert_reasons::Linking;
 use std::alloc::{AllocError, Global};
 
-/// Appends the length of a row, and the row.
-fn push_row(kind: &mut Vec<usize>, row: &[usize]) -> Result<(), AllocError>
-    ensures { OnOk result (kind.new.items ≡ kind.old.items ++ row_numbers row.now) }
-{
-    kind.push(row.len())?;
-    kind.extend_from_slice(row)?;
-    Ok(())
-}
-
-fn push_octets(kind: &mut Vec<usize>, octets: &[u8]) -> Result<(), AllocError>
+/// Appends octets, a number each.
+pub(crate) fn push_octets(kind: &mut Vec<usize>, octets: &[u8]) -> Result<(), AllocError>
     ensures { OnOk result (kind.new.items ≡ kind.old.items ++ octets.now) }
 {
     for octet in octets {
@@ -50,15 +41,15 @@ fn kind_of(
     alloc: Global,
     first: usize,
     signed: usize,
-    revoking: &[usize],
+    row: usize,
     named: Option<&[u8]>,
 ) -> Result<Vec<usize>, AllocError>
-    ensures { IfOk result (λ kind. kind.items ≡ kind_numbers first signed revoking.now (option_map (λ id. id.now) named.entry)) }
+    ensures { IfOk result (λ kind. kind.items ≡ kind_numbers first signed row (option_map (λ id. id.now) named.entry)) }
 {
     let mut kind = Vec::new(alloc);
     kind.push(first)?;
     kind.push(signed)?;
-    push_row(&mut kind, revoking)?;
+    kind.push(row)?;
     push_named(&mut kind, named)?;
     Ok(kind)
 }
@@ -69,9 +60,9 @@ pub(crate) fn id_kind(
     first: usize,
     certificate: &CertificateItem<'_>,
 ) -> Result<Vec<usize>, AllocError>
-    ensures { IfOk result (λ kind. kind.items ≡ kind_numbers first 0 [] (named_by certificate.now)) }
+    ensures { IfOk result (λ kind. kind.items ≡ kind_numbers first 0 0 (named_by certificate.now)) }
 {
-    let kind = kind_of(alloc, first, 0, &[], certificate.authority_key_id)?;
+    let kind = kind_of(alloc, first, 0, 0, certificate.authority_key_id)?;
     Ok(kind)
 }
 
@@ -82,20 +73,18 @@ pub(crate) fn item_kind<V: Vouch>(
     question: &Question<'_, '_, V>,
     place: usize,
     certificate: &CertificateItem<'_>,
-    linking: &Linking<'_, '_>,
+    row: usize,
     first: usize,
 ) -> Result<Vec<usize>, AllocError>
     requires signed { IsSigned V.Vouch question.now }
-    requires lists { HasItsLists linking.now }
-    requires certificate { linking.now.certificate.now ≡ certificate.now }
+    requires row { IsRow question.now certificate.now row }
     requires place { place < length question.now.found.now.items.now }
     requires first { HasSubject (items_in question.now) certificate.now.issuer.now first }
-    ensures { IfOk result (λ kind. IsKind linking.now.items.now (items_in question.now) linking.now.policy.moment question.now.signers.now.classes question.now.signers.now.issuer_firsts.items (named_by certificate.now) place certificate.now kind.items) }
+    ensures { IfOk result (λ kind. IsItemKind question.now place certificate.now kind.items) }
 {
     let signed = issuers_number(question, place);
-    let revoking = linking.revoking();
     let named = certificate.authority_key_id;
-    let kind = kind_of(alloc, first, signed, revoking, named)?;
+    let kind = kind_of(alloc, first, signed, row, named)?;
     Ok(kind)
 }
 
@@ -106,19 +95,17 @@ pub(crate) fn group_kind<V: Vouch>(
     question: &Question<'_, '_, V>,
     place: usize,
     certificate: &CertificateItem<'_>,
-    linking: &Linking<'_, '_>,
+    row: usize,
     first: usize,
 ) -> Result<Vec<usize>, AllocError>
     requires signed { IsSigned V.Vouch question.now }
-    requires lists { HasItsLists linking.now }
-    requires certificate { linking.now.certificate.now ≡ certificate.now }
+    requires row { IsRow question.now certificate.now row }
     requires place { place < length question.now.found.now.items.now }
     requires first { HasSubject (items_in question.now) certificate.now.issuer.now first }
-    ensures { IfOk result (λ kind. IsKind linking.now.items.now (items_in question.now) linking.now.policy.moment question.now.signers.now.classes question.now.signers.now.issuer_firsts.items None place certificate.now kind.items) }
+    ensures { IfOk result (λ kind. IsGroupKind question.now place certificate.now kind.items) }
 {
     let number = issuers_number(question, place);
-    let revoking = linking.revoking();
-    let kind = kind_of(alloc, first, number, revoking, None)?;
+    let kind = kind_of(alloc, first, number, row, None)?;
     Ok(kind)
 }
 
@@ -129,19 +116,17 @@ pub(crate) fn anchor_kind<V: Vouch>(
     question: &Question<'_, '_, V>,
     place: usize,
     certificate: &CertificateItem<'_>,
-    linking: &Linking<'_, '_>,
+    row: usize,
     first: usize,
 ) -> Result<Vec<usize>, AllocError>
     requires signed { IsSigned V.Vouch question.now }
-    requires lists { HasItsLists linking.now }
-    requires certificate { linking.now.certificate.now ≡ certificate.now }
+    requires row { IsRow question.now certificate.now row }
     requires place { place < length question.now.found.now.items.now }
     requires first { HasSubject (anchors_in question.now) certificate.now.issuer.now first }
-    ensures { IfOk result (λ kind. IsKind linking.now.items.now (anchors_in question.now) linking.now.policy.moment question.now.signers.now.classes question.now.signers.now.root_firsts.items None place certificate.now kind.items) }
+    ensures { IfOk result (λ kind. IsAnchorKind question.now place certificate.now kind.items) }
 {
     let signed = roots_number(question, place);
-    let revoking = linking.revoking();
-    let kind = kind_of(alloc, first, signed, revoking, None)?;
+    let kind = kind_of(alloc, first, signed, row, None)?;
     Ok(kind)
 }
 
@@ -153,20 +138,18 @@ pub(crate) fn held_kind<V: Vouch>(
     firsts: &[usize],
     place: usize,
     certificate: &CertificateItem<'_>,
-    linking: &Linking<'_, '_>,
+    row: usize,
     first: usize,
 ) -> Result<Vec<usize>, AllocError>
-    requires lists { HasItsLists linking.now }
-    requires certificate { linking.now.certificate.now ≡ certificate.now }
+    requires row { IsRow question.now certificate.now row }
     requires place { place < length question.now.signers.now.classes.numbers.items }
     requires number { slice_index_or question.now.signers.now.classes.numbers.items place 0 < length firsts.now }
     requires first { HasSubject (items_in question.now) certificate.now.issuer.now first }
-    ensures { IfOk result (λ kind. IsKind linking.now.items.now (items_in question.now) linking.now.policy.moment question.now.signers.now.classes firsts.now (named_by certificate.now) place certificate.now kind.items) }
+    ensures { IfOk result (λ kind. IsSearchKind question.now firsts.now place certificate.now kind.items) }
 {
     let signed = question.signers.classes.number_by(firsts, place);
-    let revoking = linking.revoking();
     let id = certificate.authority_key_id;
-    let kind = kind_of(alloc, first, signed, revoking, id)?;
+    let kind = kind_of(alloc, first, signed, row, id)?;
     Ok(kind)
 }
 
@@ -178,18 +161,16 @@ pub(crate) fn held_group<V: Vouch>(
     firsts: &[usize],
     place: usize,
     certificate: &CertificateItem<'_>,
-    linking: &Linking<'_, '_>,
+    row: usize,
     first: usize,
 ) -> Result<Vec<usize>, AllocError>
-    requires lists { HasItsLists linking.now }
-    requires certificate { linking.now.certificate.now ≡ certificate.now }
+    requires row { IsRow question.now certificate.now row }
     requires place { place < length question.now.signers.now.classes.numbers.items }
     requires number { slice_index_or question.now.signers.now.classes.numbers.items place 0 < length firsts.now }
     requires first { HasSubject (items_in question.now) certificate.now.issuer.now first }
-    ensures { IfOk result (λ kind. IsKind linking.now.items.now (items_in question.now) linking.now.policy.moment question.now.signers.now.classes firsts.now None place certificate.now kind.items) }
+    ensures { IfOk result (λ kind. IsSearchGroup question.now firsts.now place certificate.now kind.items) }
 {
     let shared = question.signers.classes.number_by(firsts, place);
-    let revoking = linking.revoking();
-    let kind = kind_of(alloc, first, shared, revoking, None)?;
+    let kind = kind_of(alloc, first, shared, row, None)?;
     Ok(kind)
 }

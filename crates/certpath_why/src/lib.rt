@@ -42,6 +42,7 @@ mod question;
 mod ranges;
 mod reached;
 mod revoked;
+mod revoking;
 mod rows;
 mod side;
 mod sifting;

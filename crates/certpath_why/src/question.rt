@@ -4,6 +4,7 @@ use crate::by_issuer::ListsByIssuer;
 use crate::demanded::Sought;
 use crate::found::Found;
 use crate::named::Named;
+use crate::revoking::RevokingRows;
 use crate::signers::Signers;
 use cert_judge::Policy;
 
@@ -22,6 +23,8 @@ pub(crate) struct Question<'q, 'a, V> {
     pub(crate) signers: &'q Signers<'a>,
     /// The lists in force of the issuers of what is reached.
     pub(crate) lists: &'q ListsByIssuer<'a>,
+    /// Of the lists in force those that have the serial number of a certificate that is reached.
+    pub(crate) revoking: &'q RevokingRows,
     /// The certificates and anchors of the names of these issuers.
     pub(crate) named: &'q Named<'a>,
     /// The moment, and whether revocation lists are demanded.

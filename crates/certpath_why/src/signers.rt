@@ -180,24 +180,6 @@ pub(crate) fn issuers_at<V: Vouch>(
     Ok(found)
 }
 
-/// The anchors that signed the item at a position, whose issuer's name is given: a step for each,
-/// and one for each key.
-pub(crate) fn roots_at<V: Vouch>(
-    alloc: Global,
-    question: &Question<'_, '_, V>,
-    place: usize,
-    name: &[u8],
-) -> Result<Vec<usize>, AllocError>
-    requires signed { IsSigned V.Vouch question.now }
-    requires place { place < length question.now.found.now.items.now }
-    ensures { (z : ReadItem) → IsAt question.now.found.now.items.now place (λ x. x ≡ z) → issuer_name (item_of z).class ≡ Some name.now
-        → IfOk result (λ found. ArePositions (IsSignedBy (V.vouches_for question.now.vouch.now).Vouches (anchors_in question.now) (item_of z)) found.items) }
-{
-    let number = question.signers.classes.number(place);
-    let found = question.signers.roots.positions(alloc, number, name)?;
-    Ok(found)
-}
-
 /// The certificates of a name that signed the item at a position, whose issuer has the name.
 pub(crate) fn signers_at<V: Vouch>(
     alloc: Global,
@@ -252,6 +234,19 @@ pub(crate) fn roots_number<V: Vouch>(question: &Question<'_, '_, V>, place: usiz
 {
     let signers = question.signers;
     signers.classes.number_by(&signers.root_firsts, place)
+}
+
+/// Likewise with those that the same certificates of a side signed.
+pub(crate) fn signers_number<V: Vouch>(
+    question: &Question<'_, '_, V>,
+    side: &Side<'_, '_>,
+    place: usize,
+) -> usize
+    requires side { IsSide V.Vouch question.now side.now }
+    requires place { place < length question.now.found.now.items.now }
+    ensures { result ≡ number_at question.now.signers.now.classes side.now.firsts.now place }
+{
+    question.signers.classes.number_by(side.firsts, place)
 }
 
 fn is_either(one: bool, other: bool) -> bool

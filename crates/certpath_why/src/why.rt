@@ -1,12 +1,13 @@
 //! The whole report: the lines of what is reached from the target, how far each issuer leads, and the
 //! lines of the lists that nobody uses. It calls what writes one certificate and one list.
 
-ghost use Rattle.std.specs.Prelude.{◌≡◌, ◌⊎◌, ℕ, List, OnOk, [], map, string_bytes};
+ghost use Rattle.std.specs.Prelude.{◌≡◌, ◌⊎◌, ℕ, List, Contains, OnOk, [], map, string_bytes};
 ghost use Rattle.cert_judge.specs.Items.{item_of, rules_by};
 ghost use Rattle.cert_judge.specs.Vouching.{processing_too};
 ghost use Rattle.cert_purpose.specs.Restricting.{restricted_by};
-ghost use Rattle.certpath_why.specs.Question.{anchors_in, items_in, rules_in, IsListed, IsNamed, IsSigned};
+ghost use Rattle.certpath_why.specs.Question.{anchors_in, items_in, rules_in, IsListed, IsNamed, IsRevoking, IsSigned};
 ghost use Rattle.certpath_why.specs.Reached.{ArePositions, IsFurther, IsCertificateAt};
+ghost use Rattle.certpath_why.specs.RevokingRows.{AreReached, HasNumber};
 ghost use Rattle.certpath_why.specs.Why.{AreTexts, TellsAt, TellsReached, AppendsWhy, AppendsWhyFor, octets_at};
 ghost use Rattle.certpath_why.specs.Found.{IsFound};
 ghost use Rattle.certpath_why.specs.Appended.{Appends};
@@ -22,6 +23,7 @@ use crate::named::Named;
 use crate::processing::Processing;
 use crate::question::Question;
 use crate::reached::further_than;
+use crate::revoking::RevokingRows;
 use crate::signers::Signers;
 use crate::written::Written;
 use asn1_core::OutOfMemory;
@@ -41,7 +43,8 @@ fn tell_target<'a, V: Vouch>(
     requires written { AreWritten V.Vouch question.now written.old }
     requires known { IsFound question.now.found.now }
     requires signed { IsSigned V.Vouch question.now }
-    requires listed { IsListed question.now }
+    requires rows { IsRevoking question.now }
+    requires reached { IsCertificateAt (items_in question.now) question.now.target → HasNumber question.now.revoking.now.numbers question.now.target }
     requires named { IsNamed question.now }
     requires target { question.now.sought.target.now ≡ octets_at (items_in question.now) question.now.target }
     ensures written { OnOk result (AreWritten V.Vouch question.now written.new) }
@@ -67,7 +70,8 @@ fn tell_further<'a, V: Vouch>(
     requires written { AreWritten V.Vouch question.now written.old }
     requires known { IsFound question.now.found.now }
     requires signed { IsSigned V.Vouch question.now }
-    requires listed { IsListed question.now }
+    requires rows { IsRevoking question.now }
+    requires reached { (p : ℕ) → Contains further.now p → HasNumber question.now.revoking.now.numbers p }
     requires named { IsNamed question.now }
     requires target { question.now.sought.target.now ≡ octets_at (items_in question.now) question.now.target }
     requires further { ArePositions (IsFurther (items_in question.now) question.now.target) further.now }
@@ -95,6 +99,8 @@ fn tell_reached<V: Vouch, S: Vouch>(
     requires known { IsFound question.now.found.now }
     requires signed { IsSigned V.Vouch question.now }
     requires listed { IsListed question.now }
+    requires rows { IsRevoking question.now }
+    requires reached { AreReached (IsCertificateAt (items_in question.now)) question.now.target further.now question.now.revoking.now.numbers }
     requires named { IsNamed question.now }
     requires target { question.now.sought.target.now ≡ octets_at (items_in question.now) question.now.target }
     requires less { (key item : List ℕ) → (S.vouches_for search.now).Vouches key item → (V.vouches_for question.now.vouch.now).Vouches key item }
@@ -133,6 +139,7 @@ fn push_why_by<'q, 'a, V: Vouch, S: Vouch>(
     let signers = Signers::new(alloc, items, anchors, vouch)?;
     let further = further_than(alloc, &found, target)?;
     let lists = ListsByIssuer::new(alloc, &found, target, &further, policy)?;
+    let revoking = RevokingRows::new(alloc, &found, &lists, target, &further, policy)?;
     let named = Named::new(alloc, &found, target, &further)?;
     let question = Question {
         found: &found,
@@ -144,6 +151,7 @@ fn push_why_by<'q, 'a, V: Vouch, S: Vouch>(
         vouch,
         signers: &signers,
         lists: &lists,
+        revoking: &revoking,
         named: &named,
         policy,
     };
@@ -175,12 +183,15 @@ fn push_why_by<'q, 'a, V: Vouch, S: Vouch>(
 /// name, the keys that vouch for it, the lists in force that have its serial number, and the key
 /// identifier that it names. What kinds have in common is worked out once. Equal keys and lists
 /// cost a binary search for each certificate and anchor of the name whose key vouches for the
-/// certificate or for one of the lists, and a sort of their key identifiers. A list that revokes
-/// costs a step for each whose key vouches for it; a key identifier, a binary search for each of
-/// the name that has it. If lists are demanded, each name costs a step for each list of it, entry
-/// of these, and key that vouches for one. Besides, a kind costs a look-up for each list in force
-/// that has the serial number, and a step for each to which it is linked: none, if it names no key
-/// identifier, or one that none of these has.
+/// certificate or for one of the lists, and a sort of their key identifiers. The lists that have a
+/// serial number cost a look-up each, and one for each certificate or anchor whose key vouches for
+/// them, once for all serial numbers that the same lists have; lists for which the same keys vouch
+/// count once. A key identifier costs a binary search for each of the name that has it. If lists
+/// are demanded, each name costs a step for each list of it, entry of these, and key that vouches
+/// for one. Besides, a kind costs its lines, and a step for each to which it is linked: none, if it
+/// names no key identifier, or one that none of these has.
+///
+/// Of the lists that revoke a certificate for an issuer or anchor the first has the line.
 /// Each list costs what `why_list_unused` costs.
 pub fn push_why<V: Vouch>(
     text: &mut String,

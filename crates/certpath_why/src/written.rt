@@ -13,8 +13,8 @@ pub(crate) struct Kept<'a> {
     pub(crate) tails: BTreeMap<Vec<usize>, Vec<String>>,
     /// Whose key identifiers differ from one that certificates name, by that and their issuer.
     pub(crate) differing: BTreeMap<Vec<usize>, Cut>,
-    /// Whose keys vouch for lists that revoke, by the positions of the lists.
-    pub(crate) lists: BTreeMap<usize, Cut>,
+    /// The ends of the lines of lists that revoke, by the numbers of their rows.
+    pub(crate) revoked: BTreeMap<usize, Vec<String>>,
     /// Under whose names and keys the certificates were issued, by their kinds.
     pub(crate) issued: BTreeMap<Vec<usize>, Issued<'a>>,
     /// Under whose keys a list is used, by the first certificate of the issuer's name.
@@ -30,7 +30,7 @@ impl<'a> Kept<'a> {
         Kept {
             tails: BTreeMap::new(alloc),
             differing: BTreeMap::new(alloc),
-            lists: BTreeMap::new(alloc),
+            revoked: BTreeMap::new(alloc),
             issued: BTreeMap::new(alloc),
             used: BTreeMap::new(alloc),
         }

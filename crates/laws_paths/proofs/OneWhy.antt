@@ -31,7 +31,7 @@ use Rattle.certpath_why.specs.Bounds.{IsBound, reach_by}
 use Rattle.certpath_why.specs.Demanded.{AreDemandLines}
 use Rattle.certpath_why.specs.Lines.{issuer_line, link_lines, list_lines, reach_lines, subject_line, to_anchors, to_items, unusable_line}
 use Rattle.certpath_why.specs.Reached.{ArePositions, HasSubject, IsCertificateAt, IsFurther}
-use Rattle.certpath_why.specs.Why.{AreNoIssuerLines, AreTexts, AreUnusableLines, FailsTo, FailsToAnchor, IsLinkedTo, IsLinkedToAnchor, IsWhyFor, TellsAt, TellsCertificate, TellsGroup, TellsGroups, TellsItem, TellsItemAt, TellsLinks, TellsList, TellsReached, missing_lines, octets_at, positions}
+use Rattle.certpath_why.specs.Why.{AreNoIssuerLines, AreTexts, AreUnusableLines, FailsTo, FailsToAnchor, IsLinkedTo, IsLinkedToAnchor, IsWhyFor, RevokesFirst, TellsAt, TellsCertificate, TellsGroup, TellsGroups, TellsItem, TellsItemAt, TellsLinks, TellsList, TellsReached, missing_lines, octets_at, positions}
 use Rattle.laws_paths.proofs.Ascending.{all_among, empty_list, member, one_ascent, one_covering, one_merged, one_text_of_each}
 
 -- ---- links
@@ -61,9 +61,9 @@ one_text_of_groups front Linked Fails text other h g =
     let unvouched = one_group front (Some links.NotVouched) (Fails links.NotVouched) h.unvouched g.unvouched h.unvouched_is g.unvouched_is in
     let differing = one_group front (Some links.KeyIdsDiffer) (Fails links.KeyIdsDiffer) h.differing g.differing h.differing_is g.differing_is in
     let revoked =
-    one_merged (λ (p : ℕ). TellsGroup front (Some (links.RevokedBy p)) (Fails (links.RevokedBy p))) (λ p. one_group front (Some (links.RevokedBy p)) (Fails (links.RevokedBy p))) h.lists g.lists h.lists_ascend g.lists_ascend
-    (λ p t at none. no_line front (Some (links.RevokedBy p)) (Fails (links.RevokedBy p)) t (λ w fails. none (g.lists_are_all p w fails)))
-    (λ p t at none. no_line front (Some (links.RevokedBy p)) (Fails (links.RevokedBy p)) t (λ w fails. none (h.lists_are_all p w fails))) h.revoked g.revoked h.revoked_is g.revoked_is in
+    one_merged (λ (p : ℕ). TellsGroup front (Some (links.RevokedBy p)) (RevokesFirst Fails p)) (λ p. one_group front (Some (links.RevokedBy p)) (RevokesFirst Fails p)) h.lists g.lists h.lists_ascend g.lists_ascend
+    (λ p t at none. no_line front (Some (links.RevokedBy p)) (RevokesFirst Fails p) t (λ w fails. none (g.lists_are_all p w fails)))
+    (λ p t at none. no_line front (Some (links.RevokedBy p)) (RevokesFirst Fails p) t (λ w fails. none (h.lists_are_all p w fails))) h.revoked g.revoked h.revoked_is g.revoked_is in
     let lacking = one_group front (Some links.NoUsedList) (Fails links.NoUsedList) h.lacking g.lacking h.lacking_is g.lacking_is in
     h.text_is
     ∙ same_five h.linked h.unvouched h.differing h.revoked h.lacking g.linked g.unvouched g.differing g.revoked g.lacking linked unvouched differing revoked lacking

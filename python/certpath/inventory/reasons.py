@@ -23,7 +23,7 @@ RUN = re.compile(rf"\n(at|list) (\d+)(?:(?: to (?:anchor )?{MANY_TO})? "
                  r"(not usable|no issuer|not linked|no issuer here|not used): .*"
                  rf"(?:\n\1 \2(?: to (?:anchor )?{MANY_TO})? \3: .*)*"
                  r"| leads to an anchor with at most \d+ below(?=\n))")
-REVOKED = re.compile(r"revoked by list (\d+)$")
+REVOKED = re.compile(r"not linked: revoked by list (\d+)")
 LIST, NO_ISSUER, BOUND = "list", "no issuer", "leads to an anchor"
 # The kinds of obstacles that a certificate has by itself, in the order of a report.
 OWN = "not usable", NO_ISSUER, "not linked", "no issuer here"
@@ -293,7 +293,8 @@ class Reasons:
             return f" to {item(it.to)}"
 
         def line(it: Obstacle) -> str:
-            said = REVOKED.sub(lambda read: f"revoked by list {item(int(read[1]))}", it.said)
+            by = REVOKED.fullmatch(it.said)
+            said = f"not linked: revoked by list {item(int(by[1]))}" if by else it.said
             return f"{it.what} {item(it.at)}{way(it)} {said}"
 
         return line

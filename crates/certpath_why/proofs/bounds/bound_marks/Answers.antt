@@ -61,3 +61,6 @@ loop-place-preserved g c = (c.in_ok-mark_from.ensures.held, of_more (IsHeldBack 
 
 pub returns : goal.returns
 returns g c = of_all (IsHeldBack (rules_by c.args.question.now.policy.now.moment c.args.question.now.policy.now.demand_lists (g.S.Vouch.vouches_for c.args.search.now)) (items_in c.args.question.now) (reach_by c.args.answer.now)) c.args.further.now c.loop-place.place-index c.in_ok-marks.marks.items c.loop-place.marks.items c.loop-place-test.false c.in_ok-marks.ensures.none c.loop-place.invariant.1
+
+pub mark_from-requires-clause-number : goal.mark_from-requires-clause-number
+mark_from-requires-clause-number g c = c.requires.reached _ (Contains-get_or c.args.further.now c.loop-place.place-index 0 c.loop-place-test.true)

@@ -18,7 +18,7 @@ holding_among-requires-clause-issuers g c =
     let q = c.args.question.now in
     let x = c.args.certificate.now in
     let signers = c.in_ok-signers.ensures (certificate_read x) c.requires.at (ap Some (sym x.issuer_is)) in
-    rw (c.deref.ensures.value, c.requires.items, c.requires.certificate) (λ w at. signed_named (g.V.Vouch.vouches_for q.vouch.now).Vouches (items_in q) x w ((signers.exact w).0 at))
+    rw (c.deref.ensures.value, c.in_ok-linking.ensures.items, c.in_ok-linking.ensures.certificate) (λ w at. signed_named (g.V.Vouch.vouches_for q.vouch.now).Vouches (items_in q) x w ((signers.exact w).0 at))
 
 pub holding_among-requires-clause-ascends : goal.holding_among-requires-clause-ascends
 holding_among-requires-clause-ascends g c =
@@ -35,7 +35,7 @@ returns g c =
     let x = c.args.certificate.now in
     let r = search_rules q (g.S.Vouch.vouches_for c.args.searched.now.vouch.now) in
     let signers = c.in_ok-signers.ensures (certificate_read x) c.requires.at (ap Some (sym x.issuer_is)) in
-    let holding = rw (c.deref.ensures.value, c.requires.items, c.requires.certificate, c.requires.policy) at c.in_ok-holding.ensures in
+    let holding = rw (c.deref.ensures.value, c.in_ok-linking.ensures.items, c.in_ok-linking.ensures.certificate, c.in_ok-linking.ensures.policy) at c.in_ok-holding.ensures in
     gathered_as q.found.now.items.now (Contains c.in_ok-holding.holding.items) (MayHoldBack r (items_in q) (reach_by c.args.searched.now.answer.now) x) c.in_ok-under.under
     (λ w. (
       λ at. ((holding.exact w).0 at).1,

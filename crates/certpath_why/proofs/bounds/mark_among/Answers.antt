@@ -30,7 +30,7 @@ mark_all-requires g c =
     let xs = q.found.now.items.now in
     let reach = reach_by c.args.searched.now.answer.now in
     let under = c.in-Some.under.now in
-    let kind = rw (c.requires.items, c.requires.policy) at c.in_ok-kind.ensures in
+    let kind = c.in_ok-kind.ensures in
     let are = c.requires.groups c.in_ok-kind.kind under (sym c.in-Some.ensures.value) c.args.place x c.requires.at kind in
     let exact = c.in_ok-named.ensures xs (gathered_there V moment demand xs reach x under are) (certificates_there V moment demand xs reach x under are) in
     rw (c.deref.ensures.value, c.requires.count) (named_below V moment demand xs reach x under are c.in_ok-named.named.items exact)
@@ -48,7 +48,7 @@ returns-in-Some-clause-marks g c =
     let xs = q.found.now.items.now in
     let reach = reach_by c.args.searched.now.answer.now in
     let under = c.in-Some.under.now in
-    let kind = rw (c.requires.items, c.requires.policy) at c.in_ok-kind.ensures in
+    let kind = c.in_ok-kind.ensures in
     let are = c.requires.groups c.in_ok-kind.kind under (sym c.in-Some.ensures.value) c.args.place x c.requires.at kind in
     let exact = c.in_ok-named.ensures xs (gathered_there V moment demand xs reach x under are) (certificates_there V moment demand xs reach x under are) in
     marks_named V moment demand xs reach x under are c.in_ok-named.named.items exact c.args.marks.now.items c.mark_all.new.marks.items (c.requires.bare c.in_ok-kind.kind under (sym c.in-Some.ensures.value)) (rw c.deref.ensures.value at c.mark_all.ensures)
@@ -82,9 +82,9 @@ returns-clause-groups g c =
     let xs = q.found.now.items.now in
     let reach = reach_by c.args.searched.now.answer.now in
     let under = c.in_ok-under.under in
-    let kind = rw (c.requires.items, c.requires.policy) at c.in_ok-kind.ensures in
+    let kind = c.in_ok-kind.ensures in
     written_more xs (IsSearchGroup q c.args.searched.now.firsts.now) (λ y. AreGathered xs (MayHoldBack (search_rules q V) (items_in q) reach y)) c.args.groups.now c.insert.new.self c.in_ok-kind.kind under c.requires.groups
-    (λ p y at k. group_alike V moment demand xs q.signers.now.classes c.args.searched.now.firsts.now reach c.args.place p x y c.in_ok-kind.kind.items under c.requires.firsts c.requires.at at kind k c.in_ok-under.ensures) (λ z. c.in_ok-insert.ensures.updates.0 z)
+    (λ p y at k. group_alike V moment demand xs q.signers.now.classes q.revoking.now.rows.items c.args.searched.now.firsts.now reach c.args.place p x y c.in_ok-kind.kind.items under c.requires.firsts c.requires.at at kind k c.in_ok-under.ensures) (λ z. c.in_ok-insert.ensures.updates.0 z)
 
 pub returns-clause-bare : goal.returns-clause-bare
 returns-clause-bare g c =

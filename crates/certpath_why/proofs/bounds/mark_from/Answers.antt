@@ -53,7 +53,7 @@ returns-then-contains-clause-marks g c =
     let q = c.args.question.now in
     let x = c.in-Some.certificate.now in
     let r = rules_by q.policy.now.moment q.policy.now.demand_lists (g.S.Vouch.vouches_for c.args.searched.now.vouch.now) in
-    let kind = rw (c.in_ok-linking.ensures.items, c.in_ok-linking.ensures.policy) at c.in_ok-kind.ensures in
+    let kind = c.in_ok-kind.ensures in
     marks_there (IsHeldBack r (items_in q) (reach_by c.args.searched.now.answer.now) c.args.place) c.args.marks.now.items
     (λ v h. c.requires.held.done c.in_ok-kind.kind (sym c.contains.ensures ∙ c.if-contains.true) c.args.place x c.in-Some.ensures.found kind v h)
 
@@ -71,7 +71,7 @@ returns-clause-held g c =
     let nowhere = sym c.reach_in.ensures ∙ c.leads_nowhere.ensures.0 c.if-not-leads_nowhere.false in
     let count = c.is_counted.ensures.0 c.if-not-is_counted.false in
     let counts = (counted_iff q.found.now.items.now c.args.place x c.in-Some.ensures.found).0 count in
-    let kind = rw (c.in_ok-linking.ensures.items, c.in_ok-linking.ensures.policy) at c.in_ok-kind.ensures in
+    let kind = c.in_ok-kind.ensures in
     let marked = marks_as (HoldsBack r items reach x) (IsHeldBack r items reach c.args.place) c.args.marks.now.items c.mark_among.new.marks.items (held_iff r q.found.now.items.now reach c.args.place x c.in-Some.ensures.found nowhere count) c.in_ok-mark_among.ensures.marks in
     record {
       done = done_more q V c.args.searched.now.firsts.now reach c.args.place c.args.held.now.done c.insert.new.self c.in_ok-kind.kind c.args.marks.now.items c.mark_among.new.marks.items c.requires.held.done marked (λ k. c.in_ok-insert.ensures.updates.0 k)
@@ -90,3 +90,22 @@ returns-clause-marks g c =
     let nowhere = sym c.reach_in.ensures ∙ c.leads_nowhere.ensures.0 c.if-not-leads_nowhere.false in
     let count = c.is_counted.ensures.0 c.if-not-is_counted.false in
     marks_as (HoldsBack r items reach x) (IsHeldBack r items reach c.args.place) c.args.marks.now.items c.mark_among.new.marks.items (held_iff r q.found.now.items.now reach c.args.place x c.in-Some.ensures.found nowhere count) c.in_ok-mark_among.ensures.marks
+
+pub of-requires-clause-firsts : goal.of-requires-clause-firsts
+of-requires-clause-firsts g c = c.requires.rows.firsts
+
+pub of-requires-clause-within : goal.of-requires-clause-within
+of-requires-clause-within g c = λ p n is. (c.requires.rows.numbered p n is).0
+
+pub returns-in_default-of-clause-marks : goal.returns-in_default-of-clause-marks
+returns-in_default-of-clause-marks g c = absurd (c.in_default-of.ensures.only refl c.requires.number)
+
+pub held_kind-requires-clause-row : goal.held_kind-requires-clause-row
+held_kind-requires-clause-row g c =
+    let q = c.args.question.now in
+    (c.in-Some-of.ensures.found q.found.now.items.now q.policy.now.moment c.in-Some.certificate.now c.requires.rows.numbered c.in-Some.ensures.found).is_row
+
+pub mark_among-requires-clause-row : goal.mark_among-requires-clause-row
+mark_among-requires-clause-row g c =
+    let q = c.args.question.now in
+    (c.in-Some-of.ensures.found q.found.now.items.now q.policy.now.moment c.in-Some.certificate.now c.requires.rows.numbered c.in-Some.ensures.found).is_row

@@ -14,7 +14,7 @@ group_kind-requires-clause-first g c = rw (c.requires.others, c.requires.name) a
 
 pub groups_from-requires : goal.groups_from-requires
 groups_from-requires g c =
-    let kind = rw (c.requires.items, c.requires.policy) at c.in_ok-kind.ensures in
+    let kind = c.in_ok-kind.ensures in
     c.requires.kept.issued c.in_ok-kind.kind c.in-Some.issued.now (sym c.in-Some.ensures.value) c.args.place c.args.certificate.now c.requires.at kind
 
 pub new-requires-clause-used : goal.new-requires-clause-used
@@ -29,13 +29,19 @@ returns-clause-kept g c =
     let x = c.args.certificate.now in
     let V = g.V.Vouch.vouches_for q.vouch.now in
     let xs = q.found.now.items.now in
-    let kind = rw (c.requires.items, c.requires.policy) at c.in_ok-kind.ensures in
+    let kind = c.in_ok-kind.ensures in
     let issued = rw c.requires.others at c.in_ok-issued.ensures.issued in
     record {
       tails = c.requires.kept.tails;
       issued = written_more xs (IsGroupKind q) (IsIssued (rules_in g.V.Vouch q) (items_in q) xs) c.args.kept.now.issued c.insert.new.self c.in_ok-kind.kind c.in_ok-issued.issued c.requires.kept.issued
-          (λ p y at k. issued_alike V q.policy.now.moment q.policy.now.demand_lists xs xs q.signers.now.classes q.signers.now.issuer_firsts.items c.args.place p x y c.in_ok-kind.kind c.in_ok-issued.issued c.requires.signed.issuer_firsts c.requires.at at kind k issued) (λ z. c.in_ok-insert.ensures.updates.0 z);
+          (λ p y at k. issued_alike V q.policy.now.moment q.policy.now.demand_lists xs xs q.signers.now.classes q.revoking.now.rows.items q.signers.now.issuer_firsts.items c.args.place p x y c.in_ok-kind.kind c.in_ok-issued.issued c.requires.signed.issuer_firsts c.requires.at at kind k issued) (λ z. c.in_ok-insert.ensures.updates.0 z);
       used = rw c.requires.others at c.in_ok-issued.ensures.used;
-      lists = c.requires.kept.lists;
+      revoked = c.requires.kept.revoked;
       differing = c.requires.kept.differing;
     }
+
+pub group_kind-requires-clause-row : goal.group_kind-requires-clause-row
+group_kind-requires-clause-row g c = c.requires.revokers.is_row
+
+pub new-requires-clause-revoking : goal.new-requires-clause-revoking
+new-requires-clause-revoking g c = c.requires.revokers.are

@@ -26,3 +26,6 @@ returns-clause-groups g c =
       );
       unvouched = let u = issued.unvouched in (u.0, u.1, c.in_ok-unvouched.ensures u.0 u.2);
     }
+
+pub new-requires-clause-revoking : goal.new-requires-clause-revoking
+new-requires-clause-revoking g c = c.requires.revokers.are

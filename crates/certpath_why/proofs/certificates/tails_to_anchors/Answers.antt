@@ -7,6 +7,7 @@ use Rattle.certpath_why.proofs.certificates.tails_to_anchors.Goals as goal
 pub root_tails_among-requires-clause-side : goal.root_tails_among-requires-clause-side
 root_tails_among-requires-clause-side g c = record {
   signed = c.requires.signed.roots;
+  firsts = rw c.deref.ensures.value c.requires.signed.root_firsts;
   named = c.in-Some.ensures c.args.question.now.found.now.anchors.now c.requires.named.roots;
   first = c.requires.first;
 }
@@ -18,6 +19,7 @@ pub root_tails_among-requires-2-clause-side : goal.root_tails_among-requires-2-c
 root_tails_among-requires-2-clause-side g c =
     let q = c.args.question.now in record {
       signed = c.requires.signed.roots;
+      firsts = rw c.deref-2.ensures.value c.requires.signed.root_firsts;
       named = gathered_as q.found.now.anchors.now (Contains c.args.roots.now) (HasSubject (anchors_in q) c.args.certificate.now.issuer.now) c.in_ok-named.named c.requires.roots.exact c.in_ok-named.ensures;
       first = c.requires.first;
     }

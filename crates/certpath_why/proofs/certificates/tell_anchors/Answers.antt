@@ -36,7 +36,7 @@ pub returns-in-Some-get-clause-text : goal.returns-in-Some-get-clause-text
 returns-in-Some-get-clause-text g c =
     let front = to_anchors c.args.place in
     let tails = c.in-Some-get.tails.now in
-    let kind = rw (c.requires.items, c.requires.policy) at c.in_ok-kind.ensures in
+    let kind = c.in_ok-kind.ensures in
     (lines_of front tails.items, rw c.deref.ensures.value at c.in_ok-push_tails.ensures, c.requires.written.tails c.in_ok-kind.kind tails (sym c.in-Some-get.ensures.value) c.args.place c.args.certificate.now c.requires.at kind front)
 
 pub returns-clause-written : goal.returns-clause-written
@@ -44,13 +44,13 @@ returns-clause-written g c =
     let q = c.args.question.now in
     let x = c.args.certificate.now in
     let V = g.V.Vouch.vouches_for q.vouch.now in
-    let kind = rw (c.requires.items, c.requires.policy) at c.in_ok-kind.ensures in
+    let kind = c.in_ok-kind.ensures in
     let are = c.in_ok-tails.ensures.tails in
     record {
       tails = written_more q.found.now.items.now (IsAnchorKind q) (λ x (tails : Vec (String Global) Global). AreAnchorTails g.V.Vouch q x tails.items) c.tails_to_anchors.new.kept.tails c.insert.new.self c.in_ok-kind.kind c.in_ok-tails.tails c.in_ok-tails.ensures.kept.tails
-          (λ p y at k. anchors_alike V q.policy.now.moment q.policy.now.demand_lists q.found.now.items.now q.found.now.anchors.now q.signers.now.classes q.signers.now.root_firsts.items c.args.place p x y c.in_ok-kind.kind c.in_ok-tails.tails.items c.requires.signed.root_firsts c.requires.at at kind k are) (λ z. c.in_ok-insert.ensures.updates.0 z);
+          (λ p y at k. anchors_alike V q.policy.now.moment q.policy.now.demand_lists q.found.now.items.now q.found.now.anchors.now q.signers.now.classes q.revoking.now.rows.items q.signers.now.root_firsts.items c.args.place p x y c.in_ok-kind.kind c.in_ok-tails.tails.items c.requires.signed.root_firsts c.requires.at at kind k are) (λ z. c.in_ok-insert.ensures.updates.0 z);
       used = c.in_ok-tails.ensures.kept.used;
-      lists = c.in_ok-tails.ensures.kept.lists;
+      revoked = c.in_ok-tails.ensures.kept.revoked;
     }
 
 pub returns-clause-text : goal.returns-clause-text
@@ -58,3 +58,6 @@ returns-clause-text g c =
     let front = to_anchors c.args.place in
     let are = c.in_ok-tails.ensures.tails in
     (lines_of front c.in_ok-tails.tails.items, rw c.deref-2.ensures.value at c.in_ok-push_tails-2.ensures, are front)
+
+pub anchor_kind-requires-clause-row : goal.anchor_kind-requires-clause-row
+anchor_kind-requires-clause-row g c = c.requires.revokers.is_row

@@ -6,7 +6,7 @@ pub returns : goal.returns
 returns g c = record {
   first = c.args.first;
   first_is = c.requires.first;
-  revoking = c.revoking-revoking.result.now;
-  revoking_are = rw c.requires.certificate at c.revoking-revoking.ensures;
-  kind_is = c.in_ok-kind.ensures ∙ ap (λ n. kind_numbers c.args.first n c.revoking-revoking.result.now (named_by c.args.certificate.now)) c.issuers_number-signed.ensures;
+  row = c.args.row;
+  row_is = c.requires.row;
+  kind_is = c.in_ok-kind.ensures ∙ ap (λ n. kind_numbers c.args.first n c.args.row (named_by c.args.certificate.now)) c.issuers_number-signed.ensures;
 }

@@ -1,37 +1,38 @@
-use Rattle.std.proofs.Common.{List, ℕ, map, Some}
-use Rattle.std.proofs.lemmas.List.Elements.{Contains-get_or}
-use Rattle.cert_judge.specs.Items.{certificate_of, certificate_item, item_of, rules_by}
-use Rattle.cert_reasons.specs.declared.links.Unlinked.TheVariants.{RevokedBy}
-use Rattle.certpath_why.specs.Why.{FailsTo, TellsGroup}
-use Rattle.certpath_why.proofs.Tailing.{tails_none, tails_more, tails_all}
+use Rattle.std.proofs.Common.{sym, subst, List, ℕ}
+use Rattle.cert_graph.proofs.PlacesOfNodes.{element_at}
+use Rattle.certpath_why.specs.Kinds.{lines_of}
+use Rattle.certpath_why.specs.Revoked.{AreRowLines}
+use Rattle.certpath_why.specs.Sides.{others_of}
+use Rattle.certpath_why.proofs.Keeping.{kept_more}
+use Rattle.certpath_why.proofs.Revokers.{AreRowTails}
+use Rattle.certpath_why.proofs.Tailing.{copied_tails}
 use Rattle.certpath_why.proofs.revoked.add_revoked.Goals as goal
 
-pub add_list-requires-clause-in_force : goal.add_list-requires-clause-in_force
-add_list-requires-clause-in_force g c = (c.requires.lists _ (Contains-get_or c.args.lists.now c.loop-list.list-index 0 c.loop-list-test.true)).0
-
-pub add_list-requires-clause-serial : goal.add_list-requires-clause-serial
-add_list-requires-clause-serial g c = (c.requires.lists _ (Contains-get_or c.args.lists.now c.loop-list.list-index 0 c.loop-list-test.true)).1
-
-pub loop-list-init : goal.loop-list-init
-loop-list-init g c =
+pub returns-in-Some-clause-tails : goal.returns-in-Some-clause-tails
+returns-in-Some-clause-tails g c =
     let q = c.args.question.now in
-    let x = c.args.certificate.now in
-    let r = rules_by q.policy.now.moment q.policy.now.demand_lists (g.V.Vouch.vouches_for q.vouch.now) in
-    let P : List ℕ → ℕ → List ℕ → Type 0 = λ front p. TellsGroup front (Some (RevokedBy p)) (FailsTo r (map item_of q.found.now.items.now) (certificate_item x) (certificate_of x) (RevokedBy p)) in
-    (tails_none P c.args.lists.now _, c.requires.kept)
+    let V = (g.V.Vouch.vouches_for q.vouch.now).Vouches in
+    let xs = q.found.now.items.now in
+    let others = others_of c.args.side.now in
+    let tails = c.in-Some.lines.now in
+    let d = (element_at q.revoking.now.rows.items c.args.revokers.number c.requires.number).0 in
+    copied_tails (AreRowLines V xs others c.args.revokers.lists.now) c.args.tails.now.items tails.items _ (rw c.deref.ensures.value at c.in_ok-add_copies.ensures)
+    (λ front. subst (λ (l : List ℕ). AreRowLines V xs others l front (lines_of front tails.items)) (sym (c.requires.row d)) (c.requires.kept c.args.revokers.number tails (sym c.in-Some.ensures.value) d front))
 
-pub loop-list-preserved : goal.loop-list-preserved
-loop-list-preserved g c =
+pub returns-clause-kept : goal.returns-clause-kept
+returns-clause-kept g c =
     let q = c.args.question.now in
-    let x = c.args.certificate.now in
-    let r = rules_by q.policy.now.moment q.policy.now.demand_lists (g.V.Vouch.vouches_for q.vouch.now) in
-    let P : List ℕ → ℕ → List ℕ → Type 0 = λ front p. TellsGroup front (Some (RevokedBy p)) (FailsTo r (map item_of q.found.now.items.now) (certificate_item x) (certificate_of x) (RevokedBy p)) in
-    (tails_more P c.args.lists.now c.loop-list.list-index 0 _ _ _ c.loop-list-test.true c.loop-list.invariant.0 c.in_ok-add_list.ensures.tails, c.in_ok-add_list.ensures.kept)
+    let V = (g.V.Vouch.vouches_for q.vouch.now).Vouches in
+    let xs = q.found.now.items.now in
+    let others = others_of c.args.side.now in
+    let tails = c.in_ok-lines.lines in
+    kept_more (AreRowTails V xs others q.revoking.now.rows.items) c.args.kept.now c.insert.new.self c.args.revokers.number tails c.requires.kept
+    (λ r front. subst (λ (l : List ℕ). AreRowLines V xs others l front (lines_of front tails.items)) (c.requires.row r) (c.in_ok-lines.ensures front)) (λ k. c.in_ok-insert.ensures.updates.0 k)
 
 pub returns-clause-tails : goal.returns-clause-tails
 returns-clause-tails g c =
     let q = c.args.question.now in
-    let x = c.args.certificate.now in
-    let r = rules_by q.policy.now.moment q.policy.now.demand_lists (g.V.Vouch.vouches_for q.vouch.now) in
-    let P : List ℕ → ℕ → List ℕ → Type 0 = λ front p. TellsGroup front (Some (RevokedBy p)) (FailsTo r (map item_of q.found.now.items.now) (certificate_item x) (certificate_of x) (RevokedBy p)) in
-    tails_all P c.args.lists.now c.loop-list.list-index _ _ c.loop-list-test.false c.loop-list.invariant.0
+    let V = (g.V.Vouch.vouches_for q.vouch.now).Vouches in
+    let xs = q.found.now.items.now in
+    let others = others_of c.args.side.now in
+    copied_tails (AreRowLines V xs others c.args.revokers.lists.now) c.args.tails.now.items c.in_ok-lines.lines.items _ (rw c.deref-2.ensures.value at c.in_ok-add_copies-2.ensures) c.in_ok-lines.ensures

@@ -17,7 +17,13 @@ pub tell_reached-requires-clause-named : goal.tell_reached-requires-clause-named
 tell_reached-requires-clause-named g c = c.in_ok-named.ensures
 
 pub tell_reached-requires-clause-further : goal.tell_reached-requires-clause-further
-tell_reached-requires-clause-further g c = rw c.deref-3.ensures.value c.in_ok-further.ensures
+tell_reached-requires-clause-further g c = rw c.deref-4.ensures.value c.in_ok-further.ensures
+
+pub tell_reached-requires-clause-rows : goal.tell_reached-requires-clause-rows
+tell_reached-requires-clause-rows g c = c.in_ok-revoking.ensures.rows
+
+pub tell_reached-requires-clause-reached : goal.tell_reached-requires-clause-reached
+tell_reached-requires-clause-reached g c = rw c.deref-4.ensures.value (rw c.deref-2.ensures.value at c.in_ok-revoking.ensures.reached)
 
 pub tell_reached-requires-clause-less : goal.tell_reached-requires-clause-less
 tell_reached-requires-clause-less g c = c.requires

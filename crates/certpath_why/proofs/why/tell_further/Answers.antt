@@ -22,3 +22,6 @@ returns-clause-written g c = c.loop-place.invariant.0
 
 pub returns-clause-text : goal.returns-clause-text
 returns-clause-text g c = texts_all (TellsAt c.args.question.now.sought.demand.now (rules_in g.V.Vouch c.args.question.now) (items_in c.args.question.now) (anchors_in c.args.question.now) c.args.question.now.target) c.args.further.now c.loop-place.place-index _ _ c.loop-place-test.false c.loop-place.invariant.1
+
+pub tell_at-requires-clause-number : goal.tell_at-requires-clause-number
+tell_at-requires-clause-number g c = c.requires.reached _ (Contains-get_or c.args.further.now c.loop-place.place-index 0 c.loop-place-test.true)

@@ -24,3 +24,12 @@ returns g c =
         text_is = refl;
       },
     )
+
+pub tell_target-requires-clause-reached : goal.tell_target-requires-clause-reached
+tell_target-requires-clause-reached g c = c.requires.reached.target
+
+pub tell_further-requires-clause-reached : goal.tell_further-requires-clause-reached
+tell_further-requires-clause-reached g c = c.requires.reached.further
+
+pub bound_among-requires-clause-reached : goal.bound_among-requires-clause-reached
+bound_among-requires-clause-reached g c = c.requires.reached.further

@@ -10,3 +10,6 @@ returns-then-is_certificate-clause-text g c = let t = c.in_ok-tell_at.ensures.te
 
 pub returns-clause-text : goal.returns-clause-text
 returns-clause-text g c = ([], sym (append-nil _), inr (λ h. not_both _ (c.is_certificate.ensures.1 h) c.if-is_certificate.false, refl))
+
+pub tell_at-requires-clause-number : goal.tell_at-requires-clause-number
+tell_at-requires-clause-number g c = c.requires.reached (c.is_certificate.ensures.0 c.if-is_certificate.true)

@@ -18,8 +18,8 @@ signers_at-requires-clause-place g c = c.requires.at.0
 pub signers_of_any-requires-clause-places : goal.signers_of_any-requires-clause-places
 signers_of_any-requires-clause-places g c =
     let q = c.args.question.now in
-    let are = rw (c.requires.items, c.requires.certificate, c.requires.policy) at c.revoking-revoking.ensures in
-    rw c.requires.name (issuers_there q.found.now.items.now q.policy.now.moment c.args.certificate.now.issuer.now c.revoking-revoking.result.now (λ p at. ((are.exact p).0 at).0))
+    let are = c.requires.revoking in
+    rw c.requires.name (issuers_there q.found.now.items.now q.policy.now.moment c.args.certificate.now.issuer.now c.args.revoking.now (λ p at. ((are.exact p).0 at).0))
 
 pub ranges_of-requires : goal.ranges_of-requires
 ranges_of-requires g c = rw c.deref.ensures.value c.in_ok-revokers.ensures.ascends
@@ -60,12 +60,12 @@ returns-clause-issued g c =
     let issuers = c.in_ok-issuers.issuers.items in
     let against = c.in_ok-against.against.items in
     let signed = c.in_ok-signers.ensures (certificate_read x) c.requires.at (ap Some (sym x.issuer_is ∙ sym c.requires.name)) in
-    let revoking = rw (c.requires.items, c.requires.certificate, c.requires.policy) at c.revoking-revoking.ensures in
+    let revoking = c.requires.revoking in
     let ranges = rw c.deref.ensures.value at c.in_ok-against.ensures in
     let revokers = c.in_ok-revokers.ensures in
     let left = rw (c.deref-2.ensures.value, c.deref-3.ensures.value) at c.in_ok-left.ensures in
     let listed = rw c.deref-4.ensures.value at c.in_ok-issuers.ensures.listed in
-    let iff = issued_positions V q.policy.now.moment q.policy.now.demand_lists xs others x side.name.now c.revoking-revoking.result.now signers c.in_ok-left.left.items issuers (IsInRanges against) c.requires.name revoking signed
+    let iff = issued_positions V q.policy.now.moment q.policy.now.demand_lists xs others x side.name.now c.args.revoking.now signers c.in_ok-left.left.items issuers (IsInRanges against) c.requires.name revoking signed
     (λ w. (λ a. (revokers.exact w).0 ((ranges.exact w).0 a), λ s. (ranges.exact w).1 ((revokers.exact w).1 s))) left listed in
     let named = rw c.requires.name at c.requires.side.named in
     record {
