@@ -4,7 +4,7 @@ use anyhow::{Result, bail};
 use asn1_any::Any;
 use asn1_traits::FromDer;
 use certcheck::{ItemClass, read_tree};
-use certpath_typed::read_typed;
+use certpath_find::read_typed;
 use der_tree::parse_der;
 use std::alloc::Global;
 use x509_certs::{X509Certificate, X509CertificateParser};

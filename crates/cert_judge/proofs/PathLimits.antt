@@ -7,7 +7,7 @@ use Rattle.std.proofs.lemmas.Bool.{lt-ltb}
 use Rattle.std.proofs.lemmas.Int.Digits.{number_after_ge}
 use Rattle.std.proofs.lemmas.Slice.Eq.{bytes_eq-Decides}
 use Rattle.asn1_core.specs.Strict.{strict_length}
-use Rattle.der_tree.specs.Table.{is_shortest}
+use Rattle.cert_model.specs.der_tree.specs.Table.{is_shortest}
 use Rattle.cert_graph.specs.declared.reach.Reach.{Reach}
 use Rattle.cert_graph.specs.declared.reach.Reach.TheVariants.{UpTo, Any}
 use Rattle.cert_graph.specs.Reach.{reach_of}

@@ -19,3 +19,4 @@ pub mod Copies
 pub mod LawsOfItems
 pub mod Examples
 pub mod Windows
+pub use Rattle.cert_model.specs.der_tree as der_tree

@@ -9,7 +9,7 @@ ghost use Rattle.cert_judge.specs.Constraints.{BasicConstraints, IsPathLength, I
 
 use asn1_core::{Class, Tag};
 use cert_model::parts::{part, whole};
-use der_tree::{is_negative_integer, is_shortest_integer, number_of};
+use cert_model::{is_negative_integer, is_shortest_integer, number_of};
 
 /// The content octet of a BOOLEAN that is true (X.690, 11.1).
 const TRUE: u8 = 0xff;

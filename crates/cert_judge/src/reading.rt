@@ -15,7 +15,7 @@ ghost use Rattle.cert_judge.specs.Revoking.{Item};
 use crate::items::{CertificateItem, ListItem, ReadItem};
 use crate::judged::{JudgedItem, judge_item};
 use asn1_core::OutOfMemory;
-use cert_framing::Items;
+use cert_model::Items;
 use cert_model::fields::{CertFields, ListFields};
 use jiff::civil::DateTime;
 use std::alloc::Global;

@@ -7,8 +7,8 @@ ghost use Rattle.cert_model.specs.Range.{AreBits};
 ghost use Rattle.cert_judge.specs.Usage.{EndsInOne, IsUsage, IsKeyUsage, MaySignCertificates};
 
 use asn1_core::{Class, Tag};
+use cert_model::bits_of;
 use cert_model::parts::whole;
-use der_tree::bits_of;
 
 /// How many bits KeyUsage names, and in how many octets they lie.
 const NAMED_BITS: usize = 9;

@@ -15,3 +15,4 @@ pub mod AttributePieces
 pub mod Extended
 pub mod KeyIds
 pub mod Parts
+pub use Rattle.der_tree as der_tree

@@ -17,3 +17,5 @@ pub mod parts;
 mod range;
 
 pub use crate::class::ItemClass;
+pub use cert_framing::Items;
+pub use der_tree::{bits_of, is_negative_integer, is_shortest_integer, number_of};

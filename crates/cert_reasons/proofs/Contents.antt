@@ -3,8 +3,8 @@ use Rattle.std.proofs.Common.{◌≡◌, ◌≢◌, ◌∙◌, ap, sym, ℕ, Lis
 use Rattle.std.specs.List.{flat_map}
 use Rattle.cert_model.specs.Fields.{Identifier}
 use Rattle.cert_model.specs.Octets.{sequence_octets, identifier_octets}
-use Rattle.cert_purpose.specs.Purposes.{ArePurposes}
-use Rattle.cert_purpose.proofs.Written as purposes
+use Rattle.cert_serving.specs.cert_purpose.specs.Purposes.{ArePurposes}
+use Rattle.cert_serving.specs.cert_purpose.proofs.Written as purposes
 use Rattle.cert_serving.specs.GeneralNames.{GeneralName, AreGeneralNames, general_name_octets}
 use Rattle.cert_serving.proofs.Written as names
 use Rattle.cert_reasons.specs.Values.{ArePurposesIn, AreNamesIn}

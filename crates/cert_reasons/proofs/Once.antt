@@ -8,7 +8,7 @@ use Rattle.asn1_core.specs.Strict.{strict_header}
 use Rattle.asn1_core.proofs.StrictLaws.{one_element_lem}
 use Rattle.cert_model.specs.Fields.{Identifier}
 use Rattle.cert_model.specs.Octets.{sequence_octets, identifier_octets}
-use Rattle.cert_purpose.specs.Purposes.{ArePurposes}
+use Rattle.cert_serving.specs.cert_purpose.specs.Purposes.{ArePurposes}
 use Rattle.cert_serving.specs.declared.names.Choice.{Choice}
 use Rattle.cert_serving.specs.GeneralNames.{GeneralName, AreGeneralNames, element_of_name, general_name_octets}
 use Rattle.cert_serving.proofs.Choices.{one_choice, tag_below}

@@ -4,7 +4,7 @@ ghost use Rattle.std.specs.Prelude.{◌≡◌, ◌++◌, ℕ, List, [], map, IfO
 ghost use Rattle.asn1_oid.specs.Identifier.{IsOidContent};
 ghost use Rattle.cert_model.specs.Fields.{Identifier};
 ghost use Rattle.cert_model.specs.Octets.{identifier_octets};
-ghost use Rattle.cert_purpose.specs.Purposes.{ArePurposes};
+ghost use Rattle.cert_serving.specs.cert_purpose.specs.Purposes.{ArePurposes};
 ghost use Rattle.cert_reasons.specs.Values.{ArePurposesIn, AreNamesIn};
 ghost use Rattle.cert_serving.specs.GeneralNames.{AreGeneralNames};
 ghost use Rattle.cert_serving.specs.GeneralNames as spelled;

@@ -9,7 +9,7 @@ use Rattle.std.proofs.lemmas.List.Concat.{flat_map-cons}
 use Rattle.std.proofs.lemmas.Grind.{flat_map-append}
 use Rattle.asn1_core.specs.Elements.{head_of_element}
 use Rattle.asn1_core.specs.Strict.{strict_header}
-use Rattle.der_tree.proofs.Cuts.{header_long}
+use Rattle.cert_judge.specs.der_tree.proofs.Cuts.{header_long}
 use Rattle.cert_model.specs.Octets.{sequence_octets}
 use Rattle.host_names.specs.Asked.{Asked}
 use Rattle.cert_serving.specs.GeneralNames.{GeneralName, IsGeneralName, element_of_name, general_name_octets, AreGeneralNames}

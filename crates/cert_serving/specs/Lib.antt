@@ -4,3 +4,5 @@ pub mod Demanding
 pub mod Refusing
 pub mod View
 pub mod Examples
+pub use Rattle.cert_purpose as cert_purpose
+pub use Rattle.cert_judge as cert_judge

@@ -14,3 +14,4 @@ pub use crate::item::{Answer, item_allows, item_serves};
 pub use crate::names::{Choice, GeneralName, next_name};
 pub use crate::permits::Permits;
 pub use crate::serving::serves;
+pub use cert_judge::Policy;

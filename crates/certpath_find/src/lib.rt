@@ -15,3 +15,4 @@ mod reading;
 pub use crate::finding::{find, find_judged};
 pub use crate::finding_all::{find_all, find_all_judged};
 pub use crate::reading::{TypedReader, judged_items};
+pub use certpath_typed::read_typed;

@@ -1,6 +1,6 @@
 -- What holds if nothing is demanded, and if something is.
 use Rattle.std.proofs.Common.{◌≡◌, ℕ, List, Option, Some, None, Result, Ok, Err, IfOk, true, false, subst}
-use Rattle.cert_judge.specs.Vouching.{Vouching}
+use Rattle.cert_serving.specs.cert_judge.specs.Vouching.{Vouching}
 use Rattle.cert_serving.specs.declared.permits.Permits.{Permits}
 use Rattle.cert_vouchers.specs.declared.vouchers.Vouchers.{Vouchers}
 use Rattle.certpath_inputs.specs.Demands.{IfNeither, VouchesWhere, is_neither}

@@ -1,8 +1,8 @@
 -- What is demanded of paths, beside their being valid, and by which relation they are judged then. This page is to be believed.
 use Rattle.std.specs.Prelude.{ℕ, Bool, true, false, List, [], ◌∷◌, ◌++◌, codes, Option, Some, None, option_map, get_or}
 use Rattle.host_names.specs.Asked.{host_view}
-use Rattle.cert_judge.specs.Vouching.{Vouching}
-use Rattle.cert_purpose.specs.Restricting.{restricted_by}
+use Rattle.cert_serving.specs.cert_judge.specs.Vouching.{Vouching}
+use Rattle.cert_serving.specs.cert_purpose.specs.Restricting.{restricted_by}
 use Rattle.cert_serving.specs.Demanding.{Demanded, PermitsOf, ProcessesFor}
 use Rattle.cert_serving.specs.Refusing.{are_permitted, are_processed}
 use Rattle.cert_serving.specs.declared.permits.Permits.{Permits}

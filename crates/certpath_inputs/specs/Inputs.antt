@@ -3,7 +3,7 @@
 use Rattle.std.specs.Prelude.{ℕ, List, Option}
 use Rattle.sha2.specs.Sha256.{sha256}
 use Rattle.cert_framing.specs.Held.{Framed}
-use Rattle.cert_judge.specs.Vouching.{Vouching, vouching_alone}
+use Rattle.cert_serving.specs.cert_judge.specs.Vouching.{Vouching, vouching_alone}
 use Rattle.cert_vouchers.specs.declared.vouchers.Vouchers.{Vouchers}
 use Rattle.cert_vouchers.specs.Vouching.{HasPair}
 use Rattle.certpath_inputs.specs.Reads.{ReadsAll, ReadsItems}

@@ -1,6 +1,6 @@
 //! What a run over all items is asked, and why it has no report.
 
-use cert_judge::Policy;
+use cert_serving::Policy;
 use thiserror::Error;
 
 /// What a run over all items is asked.

@@ -2,7 +2,7 @@
 
 ghost use Rattle.std.specs.Prelude.{◌≡◌, length, IfOk, string_bytes};
 ghost use Rattle.cert_judge.specs.Items.{rules_by};
-ghost use Rattle.cert_serving.specs.declared.permits.Permits.{Permits};
+ghost use Rattle.certpath_inputs.specs.cert_serving.specs.declared.permits.Permits.{Permits};
 ghost use Rattle.certpath_inputs.specs.Check.{check_line};
 ghost use Rattle.certpath_inputs.specs.Demands.{ArePermitsOf, VouchesWhere, demanded, target_octets};
 ghost use Rattle.certpath_recheck.specs.Recheck.{IsSaidOf, IsSaidFor};

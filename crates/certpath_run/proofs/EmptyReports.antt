@@ -10,8 +10,8 @@ use Rattle.cert_graph.specs.Inventory.{IsAdequateInventory, IsTrueInventory}
 use Rattle.cert_judge.specs.Classed.{AreClassed}
 use Rattle.cert_judge.specs.ItemGraph.{graph_of_items}
 use Rattle.cert_judge.specs.Revoking.{JudgingContext}
-use Rattle.cert_serving.specs.declared.permits.Permits.{Permits}
-use Rattle.cert_serving.specs.Refusing.{IsIn}
+use Rattle.certpath_inputs.specs.cert_serving.specs.declared.permits.Permits.{Permits}
+use Rattle.certpath_inputs.specs.cert_serving.specs.Refusing.{IsIn}
 use Rattle.certpath_inputs.specs.Demands.{ArePermitsOf, demanded, of_purpose, target_octets}
 use Rattle.certpath_inputs.specs.declared.demand.AskedPurpose.{AskedPurpose}
 use Rattle.certpath_run.specs.AllReport.{all_report_with, IsAllReportWith}

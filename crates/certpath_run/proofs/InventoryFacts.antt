@@ -25,7 +25,7 @@ use Rattle.certpath_run.specs.declared.settings.AllOutcome.TheVariants.{Each, No
 use Rattle.certpath_run.specs.Report.{class_word, end_line, certificates_among}
 use Rattle.certpath_inputs.specs.Check.{check_line}
 use Rattle.cert_judge.specs.Items.{rules_by}
-use Rattle.cert_serving.specs.declared.permits.Permits.{Permits}
+use Rattle.certpath_inputs.specs.cert_serving.specs.declared.permits.Permits.{Permits}
 use Rattle.certpath_inputs.specs.Inputs.{VouchesBy}
 use Rattle.certpath_inputs.specs.declared.demand.AskedPurpose.{AskedPurpose}
 use Rattle.certpath_inputs.specs.Demands.{ArePermitsOf, VouchesWhere, demand_lines, demanded, purpose_line, target_octets}

@@ -22,8 +22,8 @@ use Rattle.cert_model.specs.Fields.{CivilTime}
 use Rattle.cert_model.specs.View.{time_view}
 use Rattle.cert_purpose.specs.Restricting.{VouchAlike}
 use Rattle.cert_purpose.proofs.Alike.{alike_agrees, alike_answers}
-use Rattle.cert_serving.specs.Demanding.{Demanded}
-use Rattle.cert_serving.specs.declared.permits.Permits.{Permits}
+use Rattle.certpath_inputs.specs.cert_serving.specs.Demanding.{Demanded}
+use Rattle.certpath_inputs.specs.cert_serving.specs.declared.permits.Permits.{Permits}
 use Rattle.cert_vouchers.specs.declared.vouchers.Vouchers.{Vouchers}
 use Rattle.certpath_find.proofs.Answering.{one_classing}
 use Rattle.certpath_inputs.specs.Check.{check_line}

@@ -1,7 +1,7 @@
 -- What holds by remembered vouchers and permits.
 use Rattle.std.proofs.Common.{◌≡◌, ℕ, List, subst}
 use Rattle.cert_judge.specs.Vouching.{Vouching}
-use Rattle.cert_serving.specs.declared.permits.Permits.{Permits}
+use Rattle.certpath_inputs.specs.cert_serving.specs.declared.permits.Permits.{Permits}
 use Rattle.cert_vouchers.specs.declared.remembered.RememberedVouchers.{RememberedVouchers}
 use Rattle.certpath_inputs.specs.Demands.{VouchesWhere}
 

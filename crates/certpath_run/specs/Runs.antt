@@ -12,8 +12,8 @@ use Rattle.cert_judge.specs.ItemGraph.{graph_of_items}
 use Rattle.cert_judge.specs.Items.{rules_by}
 use Rattle.cert_judge.specs.Revoking.{Item, JudgingContext}
 use Rattle.cert_judge.specs.Vouching.{Vouching, processing_too}
-use Rattle.cert_serving.specs.Refusing.{are_processed}
-use Rattle.cert_serving.specs.declared.permits.Permits.{Permits}
+use Rattle.certpath_inputs.specs.cert_serving.specs.Refusing.{are_processed}
+use Rattle.certpath_inputs.specs.cert_serving.specs.declared.permits.Permits.{Permits}
 use Rattle.cert_vouchers.specs.declared.vouchers.Vouchers.{Vouchers}
 use Rattle.certpath_inputs.specs.Inputs.{VouchesBy, HasText}
 use Rattle.certpath_inputs.specs.Demands.{ArePermitsOf, HoldsFor, IfNeither, VouchesWhere, demand_lines, demanded, of_purpose, target_octets}

@@ -36,5 +36,5 @@ pub use crate::reports::{
 };
 pub use crate::running::{read_report, run, run_report};
 pub use crate::settings::{AllOutcome, Outcome, Settings};
-pub use certpath_find::find;
+pub use certpath_find::{find, find_all};
 pub use certpath_inputs::{AllSettings, AskedHost, AskedPurpose, Demand, Input, RunError};

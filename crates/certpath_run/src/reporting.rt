@@ -7,7 +7,7 @@ ghost use Rattle.cert_judge.specs.Items.{item_of, rules_by};
 ghost use Rattle.cert_judge.specs.Vouching.{processing_too};
 ghost use Rattle.cert_model.specs.View.{time_view};
 ghost use Rattle.cert_purpose.specs.Restricting.{restricted_by};
-ghost use Rattle.cert_serving.specs.declared.permits.Permits.{Permits};
+ghost use Rattle.certpath_inputs.specs.cert_serving.specs.declared.permits.Permits.{Permits};
 ghost use Rattle.certpath_run.specs.Judging.{AreJudgedOf};
 ghost use Rattle.certpath_run.specs.Report.{answer_line};
 ghost use Rattle.certpath_inputs.specs.Check.{check_line};

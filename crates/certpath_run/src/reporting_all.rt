@@ -2,7 +2,7 @@
 
 ghost use Rattle.std.specs.Prelude.{length, IfOk, string_bytes};
 ghost use Rattle.cert_model.specs.View.{time_view};
-ghost use Rattle.cert_serving.specs.declared.permits.Permits.{Permits};
+ghost use Rattle.certpath_inputs.specs.cert_serving.specs.declared.permits.Permits.{Permits};
 ghost use Rattle.certpath_inputs.specs.Demands.{ArePermitsOf, VouchesWhere, demanded, demand_lines, target_octets};
 ghost use Rattle.certpath_run.specs.Judging.{AreJudgedOf};
 ghost use Rattle.certpath_run.specs.AllReport.{IsAllReportBy, IsAllReportFor, IsAllReportOf};

@@ -2,7 +2,7 @@
 
 use crate::vouching::VouchedPairs;
 use certcheck::{Answer, Inventory, Items, OutOfMemory, Policy, Verdict, check_all};
-use certpath_find::{find, find_all};
+use certpath_run::{find, find_all};
 use rows_hex::Added;
 use std::alloc::{AllocError, Global};
 

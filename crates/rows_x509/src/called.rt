@@ -16,11 +16,12 @@ use crate::value::types::add_value;
 use crate::words::add_refusal;
 use asn1_traits::FromDer;
 use rows_hex::Added;
-use x509_certs::{TbsCertificate, X509Certificate};
 use x509_core::{X509Error, X509Result};
-use x509_lists::{CertificateRevocationList, RevokedCertificate, TbsCertList};
 use x509_names::{SubjectPublicKeyInfo, X509Name};
-use x509_requests::{X509CertificationRequest, X509CertificationRequestInfo, X509CriAttribute};
+use x509_parser::certificate::{TbsCertificate, X509Certificate};
+use x509_parser::certification_request::{X509CertificationRequest, X509CertificationRequestInfo};
+use x509_parser::cri_attributes::X509CriAttribute;
+use x509_parser::revocation_list::{CertificateRevocationList, RevokedCertificate, TbsCertList};
 
 /// Adds what the call answers.
 pub(crate) fn add_of_kind(text: &mut String, asked: &Asked<'_>) -> Added {

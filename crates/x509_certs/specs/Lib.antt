@@ -6,3 +6,4 @@ pub mod Reading
 pub mod Shared
 pub mod View
 pub mod Visits
+pub use Rattle.x509_ext as x509_ext

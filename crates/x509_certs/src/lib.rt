@@ -19,4 +19,4 @@ pub use crate::parser::{
 pub use crate::tbs::TbsCertificate;
 pub use crate::visit::{CertVisit, CertVisits};
 pub use crate::visitor::X509CertificateVisitor;
-pub use x509_ext::{UniqueIdentifier, X509Extension, X509Version};
+pub use x509_ext::{ParsedExtension, UniqueIdentifier, X509Extension, X509Version};

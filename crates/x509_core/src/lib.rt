@@ -14,3 +14,6 @@ pub use crate::elements::{
 pub use crate::error::{X509Error, X509Result};
 pub use crate::parts::Parts;
 pub use crate::room::push_in_room;
+pub use asn1_any::Any;
+pub use asn1_oid::Oid;
+pub use asn1_traits::{DerLeaf, DerMeaning, FromDer, FromLeaf, check_shortest};

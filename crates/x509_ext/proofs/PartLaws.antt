@@ -13,8 +13,8 @@ use Rattle.x509_core.proofs.FrontLaws.{named_reading}
 use Rattle.x509_core.proofs.Grammars.{IsMeaning, IsReading, next_reading, two, content_below, front_below, piece_found, piece_only}
 use Rattle.x509_core.proofs.LeafLaws.{equal_tags, tags_equal, tags_differ, differ_tags, content_found, content_only, option_meaning}
 use Rattle.x509_core.specs.declared.error.X509Error.TheVariants as errors
-use Rattle.x509_ext_flags.specs.Reading.{number_in}
-use Rattle.x509_ext_flags.proofs.Laws.{number_found, number_only}
+use Rattle.x509_ext_parse.specs.x509_ext_flags.specs.Reading.{number_in}
+use Rattle.x509_ext_parse.specs.x509_ext_flags.proofs.Laws.{number_found, number_only}
 use Rattle.x509_items.proofs.HeaderLaws.{front_header_found, front_header_only}
 use Rattle.x509_names.specs.Fields.{Bits}
 use Rattle.x509_names.specs.Leaves.{AreBits}

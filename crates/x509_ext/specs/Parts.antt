@@ -3,7 +3,7 @@ use Rattle.std.specs.Prelude.{◌≡◌, ◌≢◌, ℕ, false, List, [], Option
 use Rattle.asn1_any.specs.Cutting.{Piece}
 use Rattle.asn1_core.specs.Strict.{Head}
 use Rattle.x509_core.specs.Grammar.{Grammar, Header, One}
-pub use Rattle.x509_ext_flags.specs.Numbers.{IsNumber}
+pub use Rattle.x509_ext_parse.specs.x509_ext_flags.specs.Numbers.{IsNumber}
 use Rattle.x509_names.specs.Fields.{Bits}
 use Rattle.x509_names.specs.Leaves.{Leaf, AreBits}
 

@@ -7,7 +7,7 @@ use Rattle.asn1_any.specs.Cutting.{Piece}
 use Rattle.x509_core.specs.Answers.{Answer, named, unnamed, plain, naming, ◌>>=◌}
 use Rattle.x509_core.specs.Reading.{Reader, piece_at, front_header_at, content_in, next, many_of}
 use Rattle.x509_core.specs.declared.error.X509Error.TheVariants as errors
-use Rattle.x509_ext_flags.specs.Reading.{number_in}
+use Rattle.x509_ext_parse.specs.x509_ext_flags.specs.Reading.{number_in}
 use Rattle.x509_names.specs.Fields.{Bits}
 use Rattle.x509_names.specs.Reading.{octets_in, oid_at, bits_of}
 use Rattle.x509_ext.specs.Fields.{Extension, ValueReading}

@@ -19,7 +19,7 @@ use asn1_traits::{DerMeaning, FromDer};
 use std::alloc::Global;
 use std::fmt;
 use x509_core::{Parts, X509Error, X509Result, cut_all, named};
-use x509_ext_flags::number_of;
+use x509_ext_parse::number_of;
 
 /// The version of a certificate, list or request, as it is encoded: 0 is version 1.
 #[derive(Clone, Copy, Debug, PartialEq, Eq)]

@@ -18,7 +18,7 @@ use Rattle.x509_core.specs.Leaves.{Leaf}
 use Rattle.x509_core.specs.Reading.{next}
 use Rattle.x509_core.proofs.Grammars.{IsMeaning, IsReading, next_reading, two}
 use Rattle.x509_core.proofs.LeafLaws.{leaf_meaning, was_some}
-use Rattle.x509_names.proofs.LeafLaws.{shortest_is, is_shortest_of}
+use Rattle.x509_ext_flags.specs.x509_names.proofs.LeafLaws.{shortest_is, is_shortest_of}
 use Rattle.x509_items.proofs.TextLaws.{text_found, text_only}
 use Rattle.x509_items.specs.Reading.{text_in}
 use Rattle.x509_ext_flags.specs.Reading.{number_in}

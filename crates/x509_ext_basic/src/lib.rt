@@ -16,3 +16,8 @@ pub use crate::date::invalidity_date;
 pub use crate::number::crl_number;
 pub use crate::reason::reason_code;
 pub use crate::worked::worked_leaves;
+pub use x509_ext_flags::{
+    InhibitAnyPolicy, KeyIdentifier, KeyUsage, NSCertType, PolicyConstraints, ReasonCode,
+    ReasonFlags, number_of,
+};
+pub use x509_time::ASN1Time;

@@ -5,7 +5,7 @@ use Rattle.std.specs.Result.{result_ok}
 use Rattle.asn1_core.proofs.Cases.{chosen}
 use Rattle.asn1_core.specs.declared.error.Error.{Error}
 use Rattle.std.proofs.Common.{Result, Err}
-use Rattle.asn1_traits.specs.IntegerReading.{is_shortest}
+use Rattle.x509_core.specs.asn1_traits.specs.IntegerReading.{is_shortest}
 use Rattle.asn1_values.specs.Readers.{unsigned_at}
 use Rattle.asn1_values.specs.ReaderLaws.{unsigned_found, unsigned_only}
 use Rattle.x509_core.specs.Answers.{plain}

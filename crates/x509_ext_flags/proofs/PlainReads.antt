@@ -4,8 +4,8 @@ use Rattle.std.specs.Int.Digits.{AllBelowBase}
 use Rattle.asn1_any.specs.Cutting.{Piece}
 use Rattle.asn1_core.specs.declared.outcome.Err.{Err as Refusal}
 use Rattle.asn1_core.specs.declared.outcome.Err.TheVariants as refusals
-use Rattle.asn1_traits.specs.Elements.{EndsWithinElement}
-use Rattle.asn1_traits.specs.Reads.{Reads}
+use Rattle.x509_core.specs.asn1_traits.specs.Elements.{EndsWithinElement}
+use Rattle.x509_core.specs.asn1_traits.specs.Reads.{Reads}
 use Rattle.x509_core.specs.Answers.{Answer, Gives}
 use Rattle.x509_core.specs.Errors.{told}
 use Rattle.x509_core.specs.Fronts.{TellsMissing, TakesNoMemory}

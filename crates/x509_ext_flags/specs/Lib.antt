@@ -5,3 +5,4 @@ pub mod Reading
 pub mod Texts
 pub mod Values
 pub mod View
+pub use Rattle.x509_names as x509_names

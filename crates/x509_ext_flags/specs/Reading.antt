@@ -4,7 +4,7 @@ use Rattle.std.specs.Prelude.{ℕ, zero, suc, ◌+◌, ◌*◌, ◌==◌, Bool, 
 use Rattle.std.specs.Result.{result_ok}
 use Rattle.asn1_core.specs.Elements.{Element}
 use Rattle.asn1_any.specs.Cutting.{Piece}
-use Rattle.asn1_traits.specs.IntegerReading.{is_shortest}
+use Rattle.x509_core.specs.asn1_traits.specs.IntegerReading.{is_shortest}
 use Rattle.asn1_values.specs.Bits.{bit_at}
 use Rattle.asn1_values.specs.Readers.{check_bits, unsigned_at}
 use Rattle.x509_core.specs.Answers.{Answer, unnamed, plain, ◌>>=◌}

@@ -9,9 +9,8 @@ ghost use Rattle.x509_ext_flags.specs.Flags.{bit_of};
 ghost use Rattle.x509_ext_flags.specs.Reading.{digit, weight, flags_in};
 
 use asn1_core::Err as Refusal;
-use asn1_traits::DerLeaf;
 use asn1_values::BitString;
-use x509_core::X509Error;
+use x509_core::{DerLeaf, X509Error};
 
 /// Bit `index` of the flags; bit 0 is the lowest.
 pub fn flag_at(flags: u16, index: u32) -> bool

@@ -17,3 +17,4 @@ pub use crate::identifier::KeyIdentifier;
 pub use crate::numbers::number_of;
 pub use crate::policy::{InhibitAnyPolicy, PolicyConstraints};
 pub use crate::reason::ReasonCode;
+pub use x509_names::{RelativeDistinguishedName, X509Name};

@@ -3,8 +3,8 @@
 ghost use Rattle.std.specs.Prelude.{◌≡◌};
 ghost use Rattle.x509_ext_flags.specs.Reading.{number_in};
 
-use asn1_traits::check_shortest;
 use asn1_values::Integer;
+use x509_core::check_shortest;
 
 /// The unsigned number of 32 bits with this content, in its shortest form (X.690, 8.3); else
 /// `None`.

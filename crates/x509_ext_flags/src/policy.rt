@@ -3,8 +3,8 @@
 ghost use Rattle.std.specs.Prelude.{◌≡◌, ◌<◌, ℕ, List, length, IfOk, IfErr};
 ghost use Rattle.asn1_any.specs.CutViews.{piece_of};
 ghost use Rattle.asn1_any.specs.Views.{any_of};
-ghost use Rattle.asn1_traits.specs.Elements.{EndsWithinElement};
-ghost use Rattle.asn1_traits.specs.Reads.{Reads};
+ghost use Rattle.x509_core.specs.asn1_traits.specs.Elements.{EndsWithinElement};
+ghost use Rattle.x509_core.specs.asn1_traits.specs.Reads.{Reads};
 ghost use Rattle.x509_core.specs.Answers.{Gives, ElseMemory};
 ghost use Rattle.x509_core.specs.Errors.{told};
 ghost use Rattle.x509_core.specs.Fronts.{TakesNoMemory, TellsMissing, one_rest};
@@ -22,9 +22,8 @@ ghost use Rattle.x509_ext_flags.specs.View.{inhibit_view, policy_constraints_vie
 use crate::numbers::number_of;
 use asn1_any::{Any, Element};
 use asn1_core::{Err as Refusal, Error, HeaderCount};
-use asn1_traits::{DerMeaning, FromDer};
 use std::alloc::Global;
-use x509_core::{X509Error, X509Result, front_element, leaf_of};
+use x509_core::{DerMeaning, FromDer, X509Error, X509Result, front_element, leaf_of};
 use x509_items::{content_of, optional};
 
 /// A policyConstraints: from where on a policy is required, and mapping is forbidden (RFC 5280,

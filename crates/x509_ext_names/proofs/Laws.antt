@@ -5,9 +5,9 @@ use Rattle.x509_core.specs.Grammar.{One, Holds, Box, AsMany, ToEnd, Maybe}
 use Rattle.x509_core.specs.Reading.{content_in, many_of}
 use Rattle.x509_core.proofs.Grammars.{IsMeaning, IsReading, next_reading, two}
 use Rattle.x509_core.proofs.LeafLaws.{content_found, content_only}
-use Rattle.x509_names.specs.Leaves.{IsInteger}
-use Rattle.x509_names.specs.Reading.{integer_in}
-use Rattle.x509_names.proofs.LeafLaws.{integer_meaning}
+use Rattle.x509_ext_flags.specs.x509_names.specs.Leaves.{IsInteger}
+use Rattle.x509_ext_flags.specs.x509_names.specs.Reading.{integer_in}
+use Rattle.x509_ext_flags.specs.x509_names.proofs.LeafLaws.{integer_meaning}
 use Rattle.x509_items.specs.Grammar.{OneOrMore}
 use Rattle.x509_items.specs.Reading.{maybe_of, some_of, ended, all_of, oid_at}
 use Rattle.x509_items.proofs.Readings.{held_meaning, many_reading, some_reading, all_reading, ended_reading, maybe_reading, oid_reading}

@@ -9,10 +9,10 @@ use Rattle.x509_core.specs.Grammar.{One, HoldsWindow}
 use Rattle.x509_core.specs.Leaves.{IsOid}
 use Rattle.x509_core.proofs.Grammars.{IsMeaning, IsReading, next_reading, two, content_below}
 use Rattle.x509_core.proofs.LeafLaws.{equal_tags, tags_equal}
-use Rattle.x509_names.specs.Fields.{Name}
-use Rattle.x509_names.specs.Names.{X509Name, NameParts}
-use Rattle.x509_names.specs.Reading.{name_in, name_at}
-use Rattle.x509_names.proofs.NameLaws.{name_meaning}
+use Rattle.x509_ext_flags.specs.x509_names.specs.Fields.{Name}
+use Rattle.x509_ext_flags.specs.x509_names.specs.Names.{X509Name, NameParts}
+use Rattle.x509_ext_flags.specs.x509_names.specs.Reading.{name_in, name_at}
+use Rattle.x509_ext_flags.specs.x509_names.proofs.NameLaws.{name_meaning}
 use Rattle.x509_items.specs.Reading.{oid_at, to_end, text_in}
 use Rattle.x509_items.proofs.TextLaws.{text_found, text_only}
 use Rattle.x509_items.proofs.Readings.{oid_reading, end_case}

@@ -5,7 +5,7 @@ use Rattle.std.specs.Prelude.{◌≡◌, ℕ, List}
 use Rattle.asn1_any.specs.Cutting.{Piece}
 use Rattle.x509_core.specs.Grammar.{Grammar, One, Box, AsMany, ToEnd, Maybe}
 use Rattle.x509_core.specs.Leaves.{IsOid}
-use Rattle.x509_names.specs.Leaves.{IsInteger}
+use Rattle.x509_ext_flags.specs.x509_names.specs.Leaves.{IsInteger}
 use Rattle.x509_items.specs.Grammar.{OneOrMore, Ended}
 use Rattle.x509_ext_names.specs.Names.{GeneralName}
 use Rattle.x509_ext_names.specs.Values as values

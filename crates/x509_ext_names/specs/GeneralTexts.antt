@@ -3,7 +3,7 @@ use Rattle.std.specs.Prelude.{ℕ, List, ◌++◌, codes, decimal}
 use Rattle.asn1_oid.specs.Text.{oid_text}
 use Rattle.x509_ext_names.specs.Values.{GeneralName, other_name, rfc822_name, dns_name, x400_address, directory_name, edi_party_name, uri, ip_address, registered_id, invalid}
 use Rattle.x509_items.specs.Texts.{serial_text}
-use Rattle.x509_names.specs.NameTexts.{shown_name}
+use Rattle.x509_ext_flags.specs.x509_names.specs.NameTexts.{shown_name}
 
 -- the kind, and in parentheses what it holds; of a name of another kind than the nine its tag number and its octets
 abbrev pub general_text : GeneralName → List ℕ

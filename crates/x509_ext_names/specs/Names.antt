@@ -5,8 +5,8 @@ use Rattle.asn1_core.specs.Elements.{Element}
 use Rattle.asn1_any.specs.Cutting.{Piece}
 use Rattle.x509_core.specs.Grammar.{Grammar, One}
 use Rattle.x509_core.specs.Leaves.{IsOid}
-use Rattle.x509_names.specs.Fields.{Name}
-use Rattle.x509_names.specs.Names.{X509Name}
+use Rattle.x509_ext_flags.specs.x509_names.specs.Fields.{Name}
+use Rattle.x509_ext_flags.specs.x509_names.specs.Names.{X509Name}
 use Rattle.x509_items.specs.Grammar.{OneOrMore}
 use Rattle.x509_ext_names.specs.Values as values
 

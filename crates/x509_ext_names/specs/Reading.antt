@@ -5,7 +5,7 @@ use Rattle.asn1_core.specs.Elements.{Element}
 use Rattle.asn1_any.specs.Cutting.{Piece}
 use Rattle.x509_core.specs.Answers.{Answer, unnamed, ◌>>=◌}
 use Rattle.x509_core.specs.Reading.{Reader, content_in, next, many_of}
-use Rattle.x509_names.specs.Reading.{name_at, integer_in}
+use Rattle.x509_ext_flags.specs.x509_names.specs.Reading.{name_at, integer_in}
 use Rattle.x509_items.specs.Reading.{held, maybe_of, some_of, to_end, ended, all_of, oid_at, text_in}
 use Rattle.x509_ext_names.specs.Values as values
 

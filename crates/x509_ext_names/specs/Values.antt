@@ -2,7 +2,7 @@
 -- identifiers as their content octets.
 use Rattle.std.specs.Prelude.{ℕ, List, Option}
 use Rattle.asn1_core.specs.Elements.{Element}
-use Rattle.x509_names.specs.Fields.{Name}
+use Rattle.x509_ext_flags.specs.x509_names.specs.Fields.{Name}
 
 -- GeneralName (RFC 5280, 4.2.1.6); `invalid` has the tag number and the content of an entry that is none
 pub data GeneralName : Type 0 where

@@ -2,7 +2,7 @@
 use Rattle.std.specs.Prelude.{List, All, IfSome, option_map, map}
 use Rattle.asn1_any.specs.CutViews.{HasOwnLength}
 use Rattle.asn1_any.specs.Views.{any_of}
-use Rattle.x509_names.specs.View.{IsCountedName, name_view}
+use Rattle.x509_ext_flags.specs.x509_names.specs.View.{IsCountedName, name_view}
 use Rattle.x509_ext_flags.specs.View.{key_identifier_view}
 use Rattle.x509_ext_names.specs.Values as values
 use Rattle.x509_ext_names.specs.declared.general_name.GeneralName.{GeneralName}

@@ -20,8 +20,8 @@ use asn1_oid::Oid;
 use asn1_traits::{DerMeaning, FromDer};
 use std::alloc::Global;
 use x509_core::{X509Error, X509Result, front_element};
+use x509_ext_flags::X509Name;
 use x509_items::{Begins, Copies, first_oid, is_of_class, taken, text_of};
-use x509_names::X509Name;
 
 /// A general name (RFC 5280, 4.2.1.6). Texts must be UTF-8; their form isn't checked.
 #[derive(Debug, Drop, PartialEq, Eq)]
@@ -54,7 +54,7 @@ impl<'a> GeneralName<'a> {
     /// # Errors
     ///
     /// Out of memory, for the copied vectors.
-    #[tactic(auto, using(x509_names::proofs::Copied::same_name))]
+    #[tactic(auto, using(x509_ext_flags::specs::x509_names::proofs::Copied::same_name))]
     pub fn clone(&self, alloc: Global) -> Result<GeneralName<'a>, OutOfMemory>
         ensures { IfOk result (λ copy. general_name_view copy ≡ general_name_view self.now) }
     {

@@ -18,3 +18,8 @@ pub use crate::alternative::{
 pub use crate::constraints::{GeneralSubtree, NameConstraints};
 pub use crate::general_name::GeneralName;
 pub use crate::identifiers::AuthorityKeyIdentifier;
+pub use x509_ext_flags::{ReasonFlags, RelativeDistinguishedName, reasons_of};
+pub use x509_ext_policies::{
+    CertificatePolicies, ExtendedKeyUsage, PolicyInformation, PolicyMapping, PolicyMappings,
+    PolicyQualifierInfo, certificate_policies,
+};

@@ -11,24 +11,24 @@ use Rattle.x509_core.specs.Reading.{Reader}
 use Rattle.x509_core.proofs.Grammars.{IsReading, next_reading}
 use Rattle.x509_items.specs.Grammar.{HoldsSequence}
 use Rattle.x509_ext_parse.specs.Values as values
-use Rattle.x509_ext_flags.specs.Extensions.{KeyIdentifier, KeyUsage, NetscapeType, PolicyConstraintsParts, PolicyConstraints, InhibitAnyPolicy}
-use Rattle.x509_ext_flags.specs.Flags.{AreSixteen, AreEight}
-use Rattle.x509_ext_flags.specs.Numbers.{IsNumber}
-use Rattle.x509_ext_flags.specs.Reading.{key_identifier_in, key_identifier_at, sixteen_in, usage_at, netscape_in, netscape_at, policy_constraints_in, policy_constraints_at, tagged_number_in, inhibit_at}
-use Rattle.x509_ext_flags.proofs.Laws.{key_identifier_meaning, usage_meaning, netscape_meaning, policy_constraints_meaning, number_meaning}
-use Rattle.x509_ext_names.specs.Extensions.{AuthorityKeyIdentifierParts, AuthorityKeyIdentifier, AlternativeName, NameConstraintsParts, NameConstraints, AccessDescription, InfoAccess}
-use Rattle.x509_ext_names.specs.Names.{GeneralName}
-use Rattle.x509_ext_names.specs.Reading.{authority_key_in, authority_key_at, alternative_in, alternative_at, name_constraints_in, name_constraints_at, info_access_in, info_access_at}
-use Rattle.x509_ext_names.proofs.Laws.{alternative_meaning, authority_key_meaning, name_constraints_meaning, info_access_meaning}
+use Rattle.x509_ext_basic.specs.x509_ext_flags.specs.Extensions.{KeyIdentifier, KeyUsage, NetscapeType, PolicyConstraintsParts, PolicyConstraints, InhibitAnyPolicy}
+use Rattle.x509_ext_basic.specs.x509_ext_flags.specs.Flags.{AreSixteen, AreEight}
+use Rattle.x509_ext_basic.specs.x509_ext_flags.specs.Numbers.{IsNumber}
+use Rattle.x509_ext_basic.specs.x509_ext_flags.specs.Reading.{key_identifier_in, key_identifier_at, sixteen_in, usage_at, netscape_in, netscape_at, policy_constraints_in, policy_constraints_at, tagged_number_in, inhibit_at}
+use Rattle.x509_ext_basic.specs.x509_ext_flags.proofs.Laws.{key_identifier_meaning, usage_meaning, netscape_meaning, policy_constraints_meaning, number_meaning}
+use Rattle.x509_ext_points.specs.x509_ext_names.specs.Extensions.{AuthorityKeyIdentifierParts, AuthorityKeyIdentifier, AlternativeName, NameConstraintsParts, NameConstraints, AccessDescription, InfoAccess}
+use Rattle.x509_ext_points.specs.x509_ext_names.specs.Names.{GeneralName}
+use Rattle.x509_ext_points.specs.x509_ext_names.specs.Reading.{authority_key_in, authority_key_at, alternative_in, alternative_at, name_constraints_in, name_constraints_at, info_access_in, info_access_at}
+use Rattle.x509_ext_points.specs.x509_ext_names.proofs.Laws.{alternative_meaning, authority_key_meaning, name_constraints_meaning, info_access_meaning}
 use Rattle.x509_ext_basic.specs.Leaves.{BasicConstraints, CRLNumber, CRLReason, InvalidityDate, NetscapeComment}
 use Rattle.x509_ext_basic.specs.Reading.{constraints_at, number_at, reason_at, date_at, comment_at}
 use Rattle.x509_ext_basic.proofs.Laws.{number_reading, reason_reading, date_reading, comment_reading}
 use Rattle.x509_ext_basic.proofs.BasicLaws.{constraints_reading}
-use Rattle.x509_ext_policies.specs.Policies.{CertificatePolicies, PolicyMapping, PolicyMappings}
-use Rattle.x509_ext_policies.specs.Purposes.{ExtendedKeyUsageParts, ExtendedKeyUsage}
-use Rattle.x509_ext_policies.specs.Reading.{policies_at, mappings_in, mappings_at, purposes_in, purposes_at}
-use Rattle.x509_ext_policies.proofs.Laws.{policies_reading, mappings_meaning}
-use Rattle.x509_ext_policies.proofs.PurposeLaws.{purposes_meaning}
+use Rattle.x509_ext_points.specs.x509_ext_policies.specs.Policies.{CertificatePolicies, PolicyMapping, PolicyMappings}
+use Rattle.x509_ext_points.specs.x509_ext_policies.specs.Purposes.{ExtendedKeyUsageParts, ExtendedKeyUsage}
+use Rattle.x509_ext_points.specs.x509_ext_policies.specs.Reading.{policies_at, mappings_in, mappings_at, purposes_in, purposes_at}
+use Rattle.x509_ext_points.specs.x509_ext_policies.proofs.Laws.{policies_reading, mappings_meaning}
+use Rattle.x509_ext_points.specs.x509_ext_policies.proofs.PurposeLaws.{purposes_meaning}
 use Rattle.x509_ext_points.specs.Points.{DistributionPoint, CRLDistributionPoints, IssuingDistributionPoint}
 use Rattle.x509_ext_points.specs.Reading.{points_in, points_at, issuing_at}
 use Rattle.x509_ext_points.proofs.Laws.{points_meaning, issuing_reading}

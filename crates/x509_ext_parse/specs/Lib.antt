@@ -8,3 +8,4 @@ pub mod Reading
 pub mod Types
 pub mod Values
 pub mod View
+pub use Rattle.x509_ext_basic.specs.x509_ext_flags as x509_ext_flags

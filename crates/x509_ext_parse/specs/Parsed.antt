@@ -2,11 +2,11 @@
 use Rattle.std.specs.Prelude.{◌≡◌, ℕ, List}
 use Rattle.x509_core.specs.Grammar.{Grammar}
 use Rattle.x509_ext_parse.specs.Values as values
-use Rattle.x509_ext_flags.specs.Extensions.{KeyIdentifier, KeyUsage, NetscapeType, PolicyConstraints, InhibitAnyPolicy}
-use Rattle.x509_ext_names.specs.Extensions.{AuthorityKeyIdentifier, AlternativeName, NameConstraints, InfoAccess}
+use Rattle.x509_ext_basic.specs.x509_ext_flags.specs.Extensions.{KeyIdentifier, KeyUsage, NetscapeType, PolicyConstraints, InhibitAnyPolicy}
+use Rattle.x509_ext_points.specs.x509_ext_names.specs.Extensions.{AuthorityKeyIdentifier, AlternativeName, NameConstraints, InfoAccess}
 use Rattle.x509_ext_basic.specs.Leaves.{BasicConstraints, CRLNumber, CRLReason, InvalidityDate, NetscapeComment}
-use Rattle.x509_ext_policies.specs.Policies.{CertificatePolicies, PolicyMappings}
-use Rattle.x509_ext_policies.specs.Purposes.{ExtendedKeyUsage}
+use Rattle.x509_ext_points.specs.x509_ext_policies.specs.Policies.{CertificatePolicies, PolicyMappings}
+use Rattle.x509_ext_points.specs.x509_ext_policies.specs.Purposes.{ExtendedKeyUsage}
 use Rattle.x509_ext_points.specs.Points.{CRLDistributionPoints, IssuingDistributionPoint}
 use Rattle.x509_ext_sct.specs.Timestamps.{TimestampList}
 use Rattle.x509_ext_parse.specs.Kinds.{identifier_of}

@@ -3,10 +3,10 @@
 use Rattle.std.specs.Prelude.{ℕ, if◌then◌else◌, List, [], ◌∷◌, Option, Some, None, Ok, Err, bytes_eq}
 use Rattle.x509_core.specs.Answers.{Answer}
 use Rattle.x509_ext_parse.specs.Values as values
-use Rattle.x509_ext_flags.specs.Reading.{key_identifier_at, usage_at, netscape_at, policy_constraints_at, inhibit_at}
-use Rattle.x509_ext_names.specs.Reading.{authority_key_at, alternative_at, name_constraints_at, info_access_at}
+use Rattle.x509_ext_basic.specs.x509_ext_flags.specs.Reading.{key_identifier_at, usage_at, netscape_at, policy_constraints_at, inhibit_at}
+use Rattle.x509_ext_points.specs.x509_ext_names.specs.Reading.{authority_key_at, alternative_at, name_constraints_at, info_access_at}
 use Rattle.x509_ext_basic.specs.Reading.{constraints_at, number_at, reason_at, date_at, comment_at}
-use Rattle.x509_ext_policies.specs.Reading.{policies_at, mappings_at, purposes_at}
+use Rattle.x509_ext_points.specs.x509_ext_policies.specs.Reading.{policies_at, mappings_at, purposes_at}
 use Rattle.x509_ext_points.specs.Reading.{points_at, issuing_at}
 use Rattle.x509_ext_sct.specs.Reading.{list_at}
 use Rattle.x509_ext_parse.specs.Kinds.{identifier_of}

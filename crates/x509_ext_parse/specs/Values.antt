@@ -1,13 +1,13 @@
 -- What the values of extensions hold, without where it lies in memory. Texts are given as their
 -- octets, object identifiers as their content octets, flags as numbers.
 use Rattle.std.specs.Prelude.{ℕ, List}
-use Rattle.x509_time.specs.Times.{Time}
-pub use Rattle.x509_ext_flags.specs.Values.{PolicyConstraints}
-pub use Rattle.x509_ext_names.specs.Values.{GeneralName, other_name, rfc822_name, dns_name, x400_address, directory_name, edi_party_name, uri, ip_address, registered_id, invalid}
-pub use Rattle.x509_ext_names.specs.Values.{AuthorityKeyIdentifier, NameConstraints, AccessDescription}
+use Rattle.x509_ext_basic.specs.x509_time.specs.Times.{Time}
+pub use Rattle.x509_ext_basic.specs.x509_ext_flags.specs.Values.{PolicyConstraints}
+pub use Rattle.x509_ext_points.specs.x509_ext_names.specs.Values.{GeneralName, other_name, rfc822_name, dns_name, x400_address, directory_name, edi_party_name, uri, ip_address, registered_id, invalid}
+pub use Rattle.x509_ext_points.specs.x509_ext_names.specs.Values.{AuthorityKeyIdentifier, NameConstraints, AccessDescription}
 pub use Rattle.x509_ext_basic.specs.Values.{BasicConstraints}
 pub use Rattle.x509_ext_points.specs.Values.{PointName, full_name, relative_name, DistributionPoint, IssuingDistributionPoint}
-pub use Rattle.x509_ext_policies.specs.Values.{PolicyQualifierInfo, PolicyInformation, PolicyMapping, ExtendedKeyUsage}
+pub use Rattle.x509_ext_points.specs.x509_ext_policies.specs.Values.{PolicyQualifierInfo, PolicyInformation, PolicyMapping, ExtendedKeyUsage}
 pub use Rattle.x509_ext_sct.specs.Values.{DigitallySigned, SignedCertificateTimestamp}
 
 -- an extension's value by its identifier; why a known one isn't read plays no part

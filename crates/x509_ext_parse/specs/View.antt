@@ -1,7 +1,7 @@
 -- What a parsed value stands for, as the data of the values of extensions.
 use Rattle.std.specs.Prelude.{All, map}
 use Rattle.asn1_unsigned.specs.Numbers.{number_of}
-use Rattle.x509_time.specs.View.{time_view}
+use Rattle.x509_ext_basic.specs.x509_time.specs.View.{time_view}
 use Rattle.x509_ext_parse.specs.Values as values
 use Rattle.x509_ext_parse.specs.Parts as parts
 use Rattle.x509_ext_parse.specs.declared.parsed.ParsedExtension.{ParsedExtension}

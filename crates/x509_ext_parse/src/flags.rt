@@ -1,7 +1,7 @@
 //! Values that are flags, a number or octets, by kind.
 
 ghost use Rattle.std.specs.Prelude.{◌≡◌, IfOk};
-ghost use Rattle.x509_ext_flags.specs.Reading.{key_identifier_at, usage_at, netscape_at, policy_constraints_at, inhibit_at};
+ghost use Rattle.x509_ext_basic.specs.x509_ext_flags.specs.Reading.{key_identifier_at, usage_at, netscape_at, policy_constraints_at, inhibit_at};
 ghost use Rattle.x509_ext_parse.specs.Values as values;
 ghost use Rattle.x509_ext_parse.specs.Cases.{HoldsFaultOf, HoldsNoMemory};
 ghost use Rattle.x509_ext_parse.specs.Reading.{made, or_error};
@@ -13,7 +13,7 @@ use crate::settled::settled;
 use asn1_core::OutOfMemory;
 use asn1_traits::FromDer;
 use std::alloc::Global;
-use x509_ext_flags::{InhibitAnyPolicy, KeyIdentifier, KeyUsage, NSCertType, PolicyConstraints};
+use x509_ext_basic::{InhibitAnyPolicy, KeyIdentifier, KeyUsage, NSCertType, PolicyConstraints};
 
 // RFC 5280, 4.2.1.2.
 pub(crate) fn subject_key_identifier<'a>(

@@ -1,7 +1,7 @@
 //! Values that hold general names, by kind.
 
 ghost use Rattle.std.specs.Prelude.{◌≡◌, IfOk};
-ghost use Rattle.x509_ext_names.specs.Reading.{authority_key_at, alternative_at, name_constraints_at, info_access_at};
+ghost use Rattle.x509_ext_points.specs.x509_ext_names.specs.Reading.{authority_key_at, alternative_at, name_constraints_at, info_access_at};
 ghost use Rattle.x509_ext_parse.specs.Values as values;
 ghost use Rattle.x509_ext_parse.specs.Cases.{HoldsFaultOf, HoldsNoMemory};
 ghost use Rattle.x509_ext_parse.specs.Reading.{made, or_error};
@@ -13,7 +13,7 @@ use crate::settled::settled;
 use asn1_core::OutOfMemory;
 use asn1_traits::FromDer;
 use std::alloc::Global;
-use x509_ext_names::{
+use x509_ext_points::{
     AuthorityInfoAccess, AuthorityKeyIdentifier, IssuerAlternativeName, NameConstraints,
     SubjectAlternativeName, SubjectInfoAccess,
 };

@@ -14,3 +14,4 @@ pub mod types;
 
 pub use crate::parse::parse_extension;
 pub use crate::parsed::ParsedExtension;
+pub use x509_ext_basic::number_of;

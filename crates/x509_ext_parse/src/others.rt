@@ -2,7 +2,7 @@
 
 ghost use Rattle.std.specs.Prelude.{◌≡◌, IfOk};
 ghost use Rattle.x509_ext_points.specs.Reading.{points_at, issuing_at};
-ghost use Rattle.x509_ext_policies.specs.Reading.{policies_at, mappings_at, purposes_at};
+ghost use Rattle.x509_ext_points.specs.x509_ext_policies.specs.Reading.{policies_at, mappings_at, purposes_at};
 ghost use Rattle.x509_ext_sct.specs.Reading.{list_at};
 ghost use Rattle.x509_ext_parse.specs.Values as values;
 ghost use Rattle.x509_ext_parse.specs.Cases.{HoldsFaultOf, HoldsNoMemory};
@@ -15,8 +15,10 @@ use crate::settled::settled;
 use asn1_core::OutOfMemory;
 use asn1_traits::FromDer;
 use std::alloc::Global;
-use x509_ext_points::{CRLDistributionPoints, issuing_distribution_point as point_of};
-use x509_ext_policies::{ExtendedKeyUsage, PolicyMappings, certificate_policies as policies_of};
+use x509_ext_points::{
+    CRLDistributionPoints, ExtendedKeyUsage, PolicyMappings, certificate_policies as policies_of,
+    issuing_distribution_point as point_of,
+};
 use x509_ext_sct::parse_ct_signed_certificate_timestamp_list;
 
 // RFC 5280, 4.2.1.4.

@@ -15,7 +15,7 @@ use asn1_core::{Err as Refusal, Error, OutOfMemory};
 use asn1_oid::Oid;
 use asn1_unsigned::UnsignedBytes;
 use std::alloc::Global;
-use x509_time::ASN1Time;
+use x509_ext_basic::ASN1Time;
 
 /// The parsed value of an extension, a variant for each known identifier.
 #[derive(Debug, Drop, PartialEq, Eq)]

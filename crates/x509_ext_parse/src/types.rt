@@ -1,21 +1,15 @@
 //! The types of the values of extensions (RFC 5280, 4.2, 5.2 and 5.3; RFC 6962, 3.3).
 
-pub use x509_ext_basic::BasicConstraints;
-pub use x509_ext_flags::{
-    InhibitAnyPolicy, KeyIdentifier, KeyUsage, NSCertType, PolicyConstraints, ReasonCode,
-    ReasonFlags,
-};
-pub use x509_ext_names::{
-    AccessDescription, AuthorityInfoAccess, AuthorityKeyIdentifier, GeneralName, GeneralSubtree,
-    IssuerAlternativeName, NameConstraints, SubjectAlternativeName, SubjectInfoAccess,
+pub use x509_ext_basic::{
+    BasicConstraints, InhibitAnyPolicy, KeyIdentifier, KeyUsage, NSCertType, PolicyConstraints,
+    ReasonCode, ReasonFlags,
 };
 pub use x509_ext_points::{
-    CRLDistributionPoint, CRLDistributionPoints, DistributionPointName, IssuingDistributionPoint,
-    issuing_distribution_point,
-};
-pub use x509_ext_policies::{
-    CertificatePolicies, ExtendedKeyUsage, PolicyInformation, PolicyMapping, PolicyMappings,
-    PolicyQualifierInfo, certificate_policies,
+    AccessDescription, AuthorityInfoAccess, AuthorityKeyIdentifier, CRLDistributionPoint,
+    CRLDistributionPoints, CertificatePolicies, DistributionPointName, ExtendedKeyUsage,
+    GeneralName, GeneralSubtree, IssuerAlternativeName, IssuingDistributionPoint, NameConstraints,
+    PolicyInformation, PolicyMapping, PolicyMappings, PolicyQualifierInfo, SubjectAlternativeName,
+    SubjectInfoAccess, certificate_policies, issuing_distribution_point,
 };
 pub use x509_ext_sct::{
     CtExtensions, CtLogID, CtVersion, DigitallySigned, SignedCertificateTimestamp,

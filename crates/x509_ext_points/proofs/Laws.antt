@@ -8,12 +8,12 @@ use Rattle.x509_core.specs.Leaves.{Leaf}
 use Rattle.x509_core.specs.Reading.{front_header_at}
 use Rattle.x509_core.proofs.Grammars.{IsMeaning, IsReading, next_reading, two}
 use Rattle.x509_core.proofs.LeafLaws.{equal_tags, leaf_meaning}
-use Rattle.x509_names.specs.Names.{RelativeDistinguishedName, RelativeParts}
-use Rattle.x509_names.specs.Reading.{relative_name_in, relative_name_at}
-use Rattle.x509_names.proofs.NameLaws.{relative_meaning}
-use Rattle.x509_ext_flags.specs.Flags.{AreSixteen}
-use Rattle.x509_ext_flags.specs.Reading.{sixteen_in}
-use Rattle.x509_ext_flags.proofs.Laws.{sixteen_meaning}
+use Rattle.x509_ext_names.specs.x509_names.specs.Names.{RelativeDistinguishedName, RelativeParts}
+use Rattle.x509_ext_names.specs.x509_names.specs.Reading.{relative_name_in, relative_name_at}
+use Rattle.x509_ext_names.specs.x509_names.proofs.NameLaws.{relative_meaning}
+use Rattle.x509_ext_names.specs.x509_ext_flags.specs.Flags.{AreSixteen}
+use Rattle.x509_ext_names.specs.x509_ext_flags.specs.Reading.{sixteen_in}
+use Rattle.x509_ext_names.specs.x509_ext_flags.proofs.Laws.{sixteen_meaning}
 use Rattle.x509_items.specs.Reading.{held, maybe_of, some_of, ended, all_of}
 use Rattle.x509_items.specs.Grammar.{or_false}
 use Rattle.x509_items.proofs.HeaderLaws.{front_header_found, front_header_only}

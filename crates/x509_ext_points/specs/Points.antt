@@ -6,10 +6,10 @@ use Rattle.asn1_core.specs.Strict.{Head}
 use Rattle.asn1_traits.specs.Booleans.{BooleanMeans, IsStrictBoolean}
 use Rattle.x509_core.specs.Grammar.{Grammar, Header, One, Box, ToEnd, Maybe}
 use Rattle.x509_core.specs.Leaves.{Leaf}
-use Rattle.x509_names.specs.Fields.{Attribute}
-use Rattle.x509_names.specs.Names.{RelativeDistinguishedName}
+use Rattle.x509_ext_names.specs.x509_names.specs.Fields.{Attribute}
+use Rattle.x509_ext_names.specs.x509_names.specs.Names.{RelativeDistinguishedName}
 use Rattle.x509_items.specs.Grammar.{or_false}
-use Rattle.x509_ext_flags.specs.Flags.{AreSixteen}
+use Rattle.x509_ext_names.specs.x509_ext_flags.specs.Flags.{AreSixteen}
 use Rattle.x509_ext_names.specs.Names.{GeneralNames}
 use Rattle.x509_ext_names.specs.Values.{GeneralName}
 use Rattle.x509_ext_points.specs.Values as values

@@ -6,8 +6,8 @@ use Rattle.asn1_core.specs.Strict.{Head}
 use Rattle.asn1_any.specs.Cutting.{Piece}
 use Rattle.x509_core.specs.Answers.{Answer, unnamed, ◌>>=◌}
 use Rattle.x509_core.specs.Reading.{Reader, front_header_at, leaf_in, next}
-use Rattle.x509_names.specs.Reading.{relative_name_at}
-use Rattle.x509_ext_flags.specs.Reading.{sixteen_in}
+use Rattle.x509_ext_names.specs.x509_names.specs.Reading.{relative_name_at}
+use Rattle.x509_ext_names.specs.x509_ext_flags.specs.Reading.{sixteen_in}
 use Rattle.x509_items.specs.Reading.{held, maybe_of, some_of, ended, all_of}
 use Rattle.x509_ext_names.specs.Reading.{general_name_at, some_names_at}
 use Rattle.x509_items.specs.Grammar.{or_false}

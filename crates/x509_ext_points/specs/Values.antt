@@ -1,6 +1,6 @@
 -- What the values of this crate's types stand for. Flags are numbers.
 use Rattle.std.specs.Prelude.{ℕ, Bool, List, Option}
-use Rattle.x509_names.specs.Fields.{Attribute}
+use Rattle.x509_ext_names.specs.x509_names.specs.Fields.{Attribute}
 use Rattle.x509_ext_names.specs.Values.{GeneralName}
 
 -- DistributionPointName, DistributionPoint (RFC 5280, 4.2.1.13)

@@ -1,7 +1,7 @@
 -- What the values of this crate's types are, as the data of `Values`.
 use Rattle.std.specs.Prelude.{List, All, IfSome, option_map, map}
-use Rattle.x509_names.specs.View.{HasCountedValues, set_view}
-use Rattle.x509_ext_flags.specs.View.{reasons_view}
+use Rattle.x509_ext_names.specs.x509_names.specs.View.{HasCountedValues, set_view}
+use Rattle.x509_ext_names.specs.x509_ext_flags.specs.View.{reasons_view}
 use Rattle.x509_ext_names.specs.View.{IsCountedGeneralName, general_name_view}
 use Rattle.x509_ext_points.specs.Values as values
 use Rattle.x509_ext_points.specs.declared.name.DistributionPointName.{DistributionPointName}

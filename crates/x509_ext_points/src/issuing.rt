@@ -15,7 +15,7 @@ use asn1_any::{Any, Element};
 use asn1_core::{Err as Refusal, Error, HeaderCount, OutOfMemory};
 use std::alloc::Global;
 use x509_core::{X509Error, X509Result, front_element, leaf_of};
-use x509_ext_flags::ReasonFlags;
+use x509_ext_names::ReasonFlags;
 use x509_items::content_of;
 
 /// An issuingDistributionPoint: the scope of a revocation list (RFC 5280, 5.2.5).

@@ -10,3 +10,9 @@ mod points;
 pub use crate::issuing::{IssuingDistributionPoint, issuing_distribution_point};
 pub use crate::name::DistributionPointName;
 pub use crate::points::{CRLDistributionPoint, CRLDistributionPoints};
+pub use x509_ext_names::{
+    AccessDescription, AuthorityInfoAccess, AuthorityKeyIdentifier, CertificatePolicies,
+    ExtendedKeyUsage, GeneralName, GeneralSubtree, IssuerAlternativeName, NameConstraints,
+    PolicyInformation, PolicyMapping, PolicyMappings, PolicyQualifierInfo, SubjectAlternativeName,
+    SubjectInfoAccess, certificate_policies,
+};

@@ -2,7 +2,7 @@
 
 ghost use Rattle.std.specs.Prelude.{◌≡◌, ℕ, List, IfOk, IfSome, map, option_map, Ok};
 ghost use Rattle.x509_core.specs.Answers.{Gives};
-ghost use Rattle.x509_ext_flags.specs.View.{reasons_view};
+ghost use Rattle.x509_ext_names.specs.x509_ext_flags.specs.View.{reasons_view};
 ghost use Rattle.x509_items.specs.Reading.{maybe_of};
 ghost use Rattle.x509_ext_points.specs.Reading.{full_name_at, relative_at, point_name_at, boxed_name_at, reasons_at};
 ghost use Rattle.x509_ext_points.specs.View.{IsCountedPointName, point_name_view};
@@ -11,10 +11,10 @@ use asn1_core::{Err as Refusal, Error, HeaderCount, OutOfMemory};
 use asn1_traits::FromDer;
 use std::alloc::Global;
 use x509_core::{X509Error, X509Result, front_element, front_header};
-use x509_ext_flags::{ReasonFlags, reasons_of};
-use x509_ext_names::{GeneralName, general_names};
+use x509_ext_names::{
+    GeneralName, ReasonFlags, RelativeDistinguishedName, general_names, reasons_of,
+};
 use x509_items::{content_of, copy_all, optional};
-use x509_names::RelativeDistinguishedName;
 
 /// The name of a distribution point.
 #[derive(Debug, Drop, PartialEq, Eq)]

@@ -21,8 +21,7 @@ use asn1_core::{Err as Refusal, HeaderCount, OutOfMemory};
 use asn1_traits::{DerMeaning, FromDer};
 use std::alloc::Global;
 use x509_core::{X509Error, X509Result, front_element};
-use x509_ext_flags::ReasonFlags;
-use x509_ext_names::{GeneralName, next_some_names};
+use x509_ext_names::{GeneralName, ReasonFlags, next_some_names};
 use x509_items::{Begins, Copies, all, content_of, copy_all, copy_some, taken, told};
 
 /// A distribution point: a place where revocation lists are found.

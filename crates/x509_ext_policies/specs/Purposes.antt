@@ -1,7 +1,7 @@
 -- Purposes of a key, as they are read leniently (RFC 5280, 4.2.1.12). An identifier is given as its
 -- content octets.
 use Rattle.std.specs.Prelude.{◌≡◌, ◌⊎◌, ℕ, Bool, true, false, List, [], ◌∷◌}
-use Rattle.asn1_traits.specs.Lists.{OneIs}
+use Rattle.x509_core.specs.asn1_traits.specs.Lists.{OneIs}
 use Rattle.x509_core.specs.Grammar.{Grammar, One, ToEnd}
 use Rattle.x509_core.specs.Leaves.{IsOid}
 use Rattle.x509_items.specs.Grammar.{Sequence}

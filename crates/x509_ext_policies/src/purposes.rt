@@ -3,8 +3,8 @@
 ghost use Rattle.std.specs.Prelude.{◌≡◌, ◌<◌, ℕ, List, length, IfOk, IfErr};
 ghost use Rattle.asn1_any.specs.CutViews.{piece_of};
 ghost use Rattle.asn1_any.specs.Views.{any_of};
-ghost use Rattle.asn1_traits.specs.Elements.{EndsWithinElement};
-ghost use Rattle.asn1_traits.specs.Reads.{Reads};
+ghost use Rattle.x509_core.specs.asn1_traits.specs.Elements.{EndsWithinElement};
+ghost use Rattle.x509_core.specs.asn1_traits.specs.Reads.{Reads};
 ghost use Rattle.x509_core.specs.Answers.{Gives, ElseMemory};
 ghost use Rattle.x509_core.specs.Errors.{told};
 ghost use Rattle.x509_core.specs.Fronts.{TakesNoMemory, TellsMissing, one_rest};
@@ -21,10 +21,9 @@ ghost use Rattle.x509_ext_policies.specs.View.{purposes_view};
 use asn1_any::Element;
 use asn1_core::{Err as Refusal, HeaderCount, OutOfMemory};
 use asn1_oid::Oid;
-use asn1_traits::{DerMeaning, FromDer};
 use std::alloc::Global;
 use std::collections::BTreeSet;
-use x509_core::{X509Error, X509Result, front_element};
+use x509_core::{DerMeaning, FromDer, X509Error, X509Result, front_element};
 use x509_items::{all, copy_all, sequence_content, told};
 
 /// An extKeyUsage: purposes of a key (RFC 5280, 4.2.1.12).

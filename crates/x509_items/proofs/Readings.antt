@@ -2,14 +2,14 @@
 use Rattle.std.proofs.Common.{◌≡◌, ◌≢◌, ◌∙◌, refl, sym, ap, subst, ℕ, List, [], ◌∷◌, Option, Some, None, Ok, Err}
 use Rattle.std.specs.Int.Digits.{AllBelowBase}
 use Rattle.asn1_core.proofs.Numbers.{append_below}
-use Rattle.asn1_any.specs.Cutting.{Piece}
+use Rattle.x509_core.specs.asn1_any.specs.Cutting.{Piece}
 use Rattle.x509_core.specs.Answers.{Answer, ◌>>=◌}
 use Rattle.x509_core.specs.Reading.{Reader, content_in, next, many_of}
 use Rattle.x509_core.specs.Grammar.{Grammar, One, Holds, AsMany, ToEnd, Maybe}
 use Rattle.x509_core.proofs.Grammars.{IsMeaning, IsReading, two, content_below, many_found, many_only}
 use Rattle.x509_core.proofs.LeafLaws.{content_found, content_only}
 use Rattle.asn1_core.specs.Elements.{Element}
-use Rattle.asn1_traits.specs.Lists.{IsContainer}
+use Rattle.x509_core.specs.asn1_traits.specs.Lists.{IsContainer}
 use Rattle.x509_core.proofs.LeafLaws.{equal_tags, tags_equal, oid_meaning}
 use Rattle.x509_core.proofs.Grammars.{next_reading}
 use Rattle.x509_core.specs.Leaves.{IsOid}

@@ -1,7 +1,7 @@
 -- Words of grammars beyond those of certificates.
 use Rattle.std.specs.Prelude.{◌≡◌, ◌≢◌, ℕ, Bool, false, List, [], Option, Some, None}
-use Rattle.asn1_any.specs.Cutting.{Piece}
-use Rattle.asn1_traits.specs.Lists.{IsContainer}
+use Rattle.x509_core.specs.asn1_any.specs.Cutting.{Piece}
+use Rattle.x509_core.specs.asn1_traits.specs.Lists.{IsContainer}
 use Rattle.x509_core.specs.Grammar.{Grammar, One, AsMany}
 
 -- one or more, as many as begin there

@@ -2,7 +2,7 @@
 use Rattle.std.specs.Prelude.{ℕ, ◌==◌, ◌&&◌, if◌then◌else◌, List, [], ◌∷◌, Option, Some, None, Ok, Err}
 use Rattle.std.specs.Str.{is_utf8}
 use Rattle.asn1_core.specs.Elements.{Element}
-use Rattle.asn1_any.specs.Cutting.{Piece}
+use Rattle.x509_core.specs.asn1_any.specs.Cutting.{Piece}
 use Rattle.x509_core.specs.Answers.{Answer, unnamed, ◌>>=◌}
 use Rattle.x509_core.specs.Reading.{Reader, content_in, oid_in, next, many_of}
 

@@ -2,16 +2,15 @@
 
 ghost use Rattle.std.specs.Prelude.{◌≡◌, ◌==◌, IfErr};
 ghost use Rattle.asn1_core.specs.Views.{class_number};
-ghost use Rattle.asn1_any.specs.Views.{any_of};
+ghost use Rattle.x509_core.specs.asn1_any.specs.Views.{any_of};
 ghost use Rattle.x509_core.specs.Answers.{Gives};
 ghost use Rattle.x509_core.specs.Fronts.{TakesNoMemory};
 ghost use Rattle.x509_core.specs.Reading.{content_in};
 ghost use Rattle.x509_items.specs.Answers.{IsOptional, IsTaken, IsTold};
 ghost use Rattle.x509_items.specs.Reading.{sequence_in};
 
-use asn1_any::Any;
 use asn1_core::{Class, Err as Refusal, Error, OutOfMemory, Tag};
-use x509_core::{X509Error, X509Result};
+use x509_core::{Any, X509Error, X509Result};
 
 /// The content of an element of this tag number, of any class and constructed bit.
 ///

@@ -3,8 +3,8 @@
 ghost use Rattle.std.specs.Prelude.{◌≡◌, IfOk, map, option_map};
 
 use asn1_core::OutOfMemory;
-use asn1_oid::Oid;
 use std::alloc::Global;
+use x509_core::Oid;
 
 /// A type whose values can be copied with equal data.
 pub trait Copies: Sized {

@@ -8,9 +8,8 @@ ghost use Rattle.x509_items.specs.Reading.{oid_at};
 use crate::answers::taken;
 use crate::begins::Begins;
 use asn1_core::{HeaderCount, OutOfMemory};
-use asn1_oid::Oid;
 use std::alloc::Global;
-use x509_core::{X509Result, front_element, oid_of};
+use x509_core::{Oid, X509Result, front_element, oid_of};
 
 /// Reads one OBJECT IDENTIFIER, of any content, from the front of `i`. Returns `(rest,
 /// identifier)`.

@@ -2,8 +2,8 @@
 
 ghost use Rattle.std.specs.Prelude.{◌≡◌, ◌<◌, Some, IfOk, IfErr, string_bytes};
 ghost use Rattle.std.specs.Fmt.{DisplaysOnOk};
-ghost use Rattle.asn1_oid.specs.Joining.{separator_text};
-ghost use Rattle.asn1_oid.specs.Text.{hex_pair};
+ghost use Rattle.x509_core.specs.asn1_oid.specs.Joining.{separator_text};
+ghost use Rattle.x509_core.specs.asn1_oid.specs.Text.{hex_pair};
 ghost use Rattle.x509_core.specs.Answers.{Gives};
 ghost use Rattle.x509_core.specs.Fronts.{TakesNoMemory};
 ghost use Rattle.x509_items.specs.Reading.{text_in};

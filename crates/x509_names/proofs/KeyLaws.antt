@@ -6,7 +6,7 @@ use Rattle.std.proofs.lemmas.Int.Digits.{number_lt}
 use Rattle.std.proofs.Math.Nat.{pow-le-pow_right}
 use Rattle.std.proofs.lemmas.Slice.Eq.{bytes_eq-Decides}
 use Rattle.asn1_core.proofs.Cases.{chosen}
-use Rattle.asn1_traits.specs.Integers.{twos_complement}
+use Rattle.x509_core.specs.asn1_traits.specs.Integers.{twos_complement}
 use Rattle.asn1_values.specs.ReaderLaws.{unsigned_only}
 use Rattle.asn1_values.specs.Readers.{unsigned_at}
 use Rattle.std.specs.Int.Digits.{AllBelowBase}

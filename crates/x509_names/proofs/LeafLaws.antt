@@ -8,8 +8,8 @@ use Rattle.asn1_core.specs.Elements.{Element}
 use Rattle.asn1_core.specs.declared.error.Error.{Error}
 use Rattle.asn1_any.specs.Cutting.{Piece}
 use Rattle.asn1_any.proofs.Long.{content_long}
-use Rattle.asn1_traits.specs.Integers.{IsShortest}
-use Rattle.asn1_traits.specs.IntegerReading.{is_shortest}
+use Rattle.x509_core.specs.asn1_traits.specs.Integers.{IsShortest}
+use Rattle.x509_core.specs.asn1_traits.specs.IntegerReading.{is_shortest}
 use Rattle.asn1_values.specs.Readers.{bits_at as bits_inside, check_bits}
 use Rattle.asn1_values.specs.ReaderLaws.{bits_is, check_bits_is}
 use Rattle.x509_core.specs.Answers.{Answer, unnamed, plain, ◌>>=◌}

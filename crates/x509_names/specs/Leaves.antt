@@ -1,7 +1,7 @@
 -- Single elements, and what they mean. A leaf is primitive; its tag number is compared, its class isn't.
 use Rattle.std.specs.Prelude.{◌≡◌, ℕ, List, ◌∷◌}
 use Rattle.asn1_any.specs.Cutting.{Piece}
-use Rattle.asn1_traits.specs.Integers.{IsShortest}
+use Rattle.x509_core.specs.asn1_traits.specs.Integers.{IsShortest}
 use Rattle.asn1_values.specs.Bits.{AreStrictBits}
 use Rattle.x509_core.specs.Leaves.{Leaf}
 use Rattle.x509_names.specs.Fields.{Bits}

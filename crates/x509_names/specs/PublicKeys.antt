@@ -1,6 +1,6 @@
 -- What the octets of a key are, by the algorithm of the key, and how long keys are.
 use Rattle.std.specs.Prelude.{◌≡◌, ◌≢◌, ℕ, pos, ◌-◌, ◌*◌, ◌^◌, ◌≤◌, nat_lt, ◌==◌, ◌||◌, min, if◌then◌else◌, List, [], ◌∷◌, length}
-use Rattle.asn1_traits.specs.Integers.{SpellsInteger}
+use Rattle.x509_core.specs.asn1_traits.specs.Integers.{SpellsInteger}
 use Rattle.x509_core.specs.Grammar.{Grammar, One, Box}
 use Rattle.x509_names.specs.Fields.{RsaKey, KeyValue, rsa, ec, dsa, gost, gost_2012, unknown}
 use Rattle.x509_objects.specs.Identifiers.{rsa_id, ec_id, dsa_id, gost_id, gost_2012_256_id, gost_2012_512_id}

@@ -5,7 +5,7 @@ use Rattle.std.specs.Prelude.{ℕ, ◌-◌, ◌||◌, if◌then◌else◌, List,
 use Rattle.std.specs.Result.{result_ok}
 use Rattle.asn1_core.specs.Elements.{Element}
 use Rattle.asn1_any.specs.Cutting.{Piece}
-use Rattle.asn1_traits.specs.IntegerReading.{is_shortest}
+use Rattle.x509_core.specs.asn1_traits.specs.IntegerReading.{is_shortest}
 use Rattle.asn1_values.specs.Readers.{bits_at as bits_within, check_bits}
 use Rattle.x509_core.specs.Answers.{Answer, unnamed, plain, naming, ◌>>=◌}
 use Rattle.x509_core.specs.Reading.{Reader, piece_at, content_in, leaf_in, oid_in, next, many_of}

@@ -4,8 +4,8 @@ ghost use Rattle.std.specs.Prelude.{◌≡◌, ◌+◌, ◌^◌, ◌<◌, ◌≤
 ghost use Rattle.asn1_core.specs.Counts.{attempts};
 ghost use Rattle.asn1_any.specs.CutViews.{HasOwnLength};
 ghost use Rattle.asn1_any.specs.Views.{any_of};
-ghost use Rattle.asn1_traits.specs.Elements.{EndsWithinElement};
-ghost use Rattle.asn1_traits.specs.Reads.{Reads};
+ghost use Rattle.x509_core.specs.asn1_traits.specs.Elements.{EndsWithinElement};
+ghost use Rattle.x509_core.specs.asn1_traits.specs.Reads.{Reads};
 ghost use Rattle.x509_core.specs.Answers.{Gives, ElseMemory};
 ghost use Rattle.x509_core.specs.Errors.{told};
 ghost use Rattle.x509_core.specs.Grammar.{Holds};
@@ -19,9 +19,10 @@ use crate::leaves::next_oid;
 use asn1_any::{Any, Element};
 use asn1_core::{Err as Refusal, HeaderCount, OutOfMemory};
 use asn1_oid::Oid;
-use asn1_traits::{DerMeaning, FromDer};
 use std::alloc::Global;
-use x509_core::{Parts, X509Error, X509Result, front_element, named, parts_of};
+use x509_core::{
+    DerMeaning, FromDer, Parts, X509Error, X509Result, front_element, named, parts_of,
+};
 
 /// An algorithm and its optional parameters (RFC 5280, 4.1.1.2), borrowed from the octets that it
 /// was read from. Parameters are present if any octet follows the identifier.

@@ -3,8 +3,8 @@
 ghost use Rattle.std.specs.Prelude.{◌≡◌, ◌+◌, ◌*◌, ◌^◌, ◌<◌, ◌≤◌, ℕ, List, length, IfOk, IfErr, IsOkAnd, Some, option_map};
 ghost use Rattle.asn1_core.specs.Counts.{attempts};
 ghost use Rattle.asn1_any.specs.CutViews.{piece_of};
-ghost use Rattle.asn1_traits.specs.Elements.{EndsWithinElement};
-ghost use Rattle.asn1_traits.specs.Reads.{Reads};
+ghost use Rattle.x509_core.specs.asn1_traits.specs.Elements.{EndsWithinElement};
+ghost use Rattle.x509_core.specs.asn1_traits.specs.Reads.{Reads};
 ghost use Rattle.x509_core.specs.Answers.{Gives, ElseMemory, naming};
 ghost use Rattle.x509_core.specs.Errors.{told};
 ghost use Rattle.x509_core.specs.Grammar.{HoldsWindow};
@@ -20,10 +20,11 @@ use crate::leaves::next_bits;
 use crate::public_key::{PublicKey, key_value};
 use asn1_any::Element;
 use asn1_core::{Err as Refusal, HeaderCount, OutOfMemory};
-use asn1_traits::{DerMeaning, FromDer};
 use asn1_values::BitString;
 use std::alloc::Global;
-use x509_core::{Parts, X509Error, X509Result, front_element, named, parts_of};
+use x509_core::{
+    DerMeaning, FromDer, Parts, X509Error, X509Result, front_element, named, parts_of,
+};
 
 /// A public key with its algorithm (RFC 5280, 4.1.2.7), borrowed from the octets that it was read
 /// from.

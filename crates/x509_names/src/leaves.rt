@@ -10,10 +10,9 @@ ghost use Rattle.x509_names.specs.View.{bits_view};
 use asn1_any::Any;
 use asn1_core::{Err as Refusal, Error};
 use asn1_oid::Oid;
-use asn1_traits::{DerLeaf, FromLeaf, check_shortest};
 use asn1_values::BitString;
 use std::alloc::Global;
-use x509_core::{Parts, X509Error, leaf_of, oid_of};
+use x509_core::{DerLeaf, FromLeaf, Parts, X509Error, check_shortest, leaf_of, oid_of};
 
 /// The content octets of an OCTET STRING.
 pub(crate) fn octets_of<'a>(any: Any<'a>) -> Result<&'a [u8], Refusal<X509Error>>

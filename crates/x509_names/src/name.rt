@@ -6,8 +6,8 @@ ghost use Rattle.std.specs.List.{filter};
 ghost use Rattle.std.specs.Slice.Iter.{iter_rest};
 ghost use Rattle.asn1_core.specs.Counts.{attempts};
 ghost use Rattle.asn1_any.specs.CutViews.{piece_of};
-ghost use Rattle.asn1_traits.specs.Elements.{EndsWithinElement};
-ghost use Rattle.asn1_traits.specs.Reads.{Reads};
+ghost use Rattle.x509_core.specs.asn1_traits.specs.Elements.{EndsWithinElement};
+ghost use Rattle.x509_core.specs.asn1_traits.specs.Reads.{Reads};
 ghost use Rattle.x509_core.specs.Answers.{Gives, ManyGive, ElseMemory};
 ghost use Rattle.x509_core.specs.Errors.{told};
 ghost use Rattle.x509_core.specs.Grammar.{HoldsWindow};
@@ -24,10 +24,9 @@ use crate::relative::{RelativeDistinguishedName, relative_name_of};
 use asn1_any::Element;
 use asn1_core::{Err as Refusal, HeaderCount, OutOfMemory};
 use asn1_oid::Oid;
-use asn1_traits::{DerMeaning, FromDer};
 use std::alloc::Global;
 use std::slice;
-use x509_core::{Parts, X509Error, X509Result, front_element, parts_of};
+use x509_core::{DerMeaning, FromDer, Parts, X509Error, X509Result, front_element, parts_of};
 
 /// A distinguished name: a sequence of sets of attributes (RFC 5280, 4.1.2.4), borrowed from the
 /// octets that it was read from.

@@ -2,7 +2,7 @@
 
 ghost use Rattle.std.specs.Prelude.{◌≡◌, ℕ, List, Ok, Some, IfOk, IfErr, IfSome, IsSomeAnd, option_map};
 ghost use Rattle.asn1_any.specs.Views.{any_of};
-ghost use Rattle.asn1_traits.specs.Reads.{Reads};
+ghost use Rattle.x509_core.specs.asn1_traits.specs.Reads.{Reads};
 ghost use Rattle.asn1_core.specs.declared.outcome.Err.TheVariants as refusals;
 ghost use Rattle.x509_core.specs.Answers.{Gives, ElseMemory};
 ghost use Rattle.x509_core.specs.Errors.{told};
@@ -18,10 +18,9 @@ ghost use Rattle.x509_names.specs.View.{rsa_view, public_key_view};
 use crate::leaves::{integer_of, octets_of};
 use asn1_any::Element;
 use asn1_core::{Err as Refusal, Error, HeaderCount};
-use asn1_traits::{DerMeaning, FromDer};
 use asn1_values::Integer;
 use std::alloc::Global;
-use x509_core::{X509Error, X509Result, front_element};
+use x509_core::{DerMeaning, FromDer, X509Error, X509Result, front_element};
 
 /// rsaEncryption, 1.2.840.113549.1.1.1.
 const RSA_ENCRYPTION: &[u8] = b"\x2a\x86\x48\x86\xf7\x0d\x01\x01\x01";

@@ -5,8 +5,8 @@ ghost use Rattle.std.specs.Iterator.{Drains, IsFinite};
 ghost use Rattle.std.specs.Slice.Iter.{iter_rest};
 ghost use Rattle.asn1_core.specs.Counts.{attempts};
 ghost use Rattle.asn1_any.specs.Views.{any_of};
-ghost use Rattle.asn1_traits.specs.Elements.{EndsWithinElement};
-ghost use Rattle.asn1_traits.specs.Reads.{Reads};
+ghost use Rattle.x509_core.specs.asn1_traits.specs.Elements.{EndsWithinElement};
+ghost use Rattle.x509_core.specs.asn1_traits.specs.Reads.{Reads};
 ghost use Rattle.x509_core.specs.Answers.{Gives, ManyGive, ElseMemory};
 ghost use Rattle.x509_core.specs.Errors.{told};
 ghost use Rattle.x509_core.specs.Grammar.{Holds};
@@ -20,10 +20,11 @@ ghost use Rattle.x509_names.specs.View.{HasCountedValue, HasCountedValues, attri
 use crate::attribute::{AttributeTypeAndValue, attribute_of};
 use asn1_any::Element;
 use asn1_core::{Err as Refusal, ErrorKind, HeaderCount, OutOfMemory};
-use asn1_traits::{DerMeaning, FromDer};
 use std::alloc::Global;
 use std::{cmp, slice};
-use x509_core::{Parts, X509Error, X509Result, front_element, parts_of, push_in_room};
+use x509_core::{
+    DerMeaning, FromDer, Parts, X509Error, X509Result, front_element, parts_of, push_in_room,
+};
 
 /// A relative distinguished name: a set of attributes in the order of the encoding (RFC 5280,
 /// 4.1.2.4). One that was read has at least one.

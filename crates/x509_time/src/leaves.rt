@@ -5,7 +5,7 @@ ghost use Rattle.jiff.specs.Words.{civil_nanos};
 ghost use Rattle.asn1_any.specs.Views.{any_of};
 ghost use Rattle.asn1_core.specs.declared.outcome.Err.TheVariants as refusals;
 ghost use Rattle.asn1_times.specs.Readers.{der_generalized_time_at};
-ghost use Rattle.asn1_traits.specs.Reads.{Reads};
+ghost use Rattle.x509_core.specs.asn1_traits.specs.Reads.{Reads};
 ghost use Rattle.x509_core.specs.Answers.{Gives, ElseMemory, plain};
 ghost use Rattle.x509_core.specs.Errors.{told};
 ghost use Rattle.x509_core.specs.Reading.{next};
@@ -19,10 +19,9 @@ use crate::time::ASN1Time;
 use asn1_any::Any;
 use asn1_core::{Err as Refusal, Tag};
 use asn1_times::{GeneralizedTime, UtcTime};
-use asn1_traits::{DerLeaf, DerMeaning, FromDer};
 use jiff::civil::DateTime;
 use std::alloc::Global;
-use x509_core::{Parts, X509Error, X509Result};
+use x509_core::{DerLeaf, DerMeaning, FromDer, Parts, X509Error, X509Result};
 
 // The moment of a UTCTime's content, if it is one's and the calendar has it.
 #[tactic(auto, unfolding(crate::specs::Reading::utc_nanos_at))]

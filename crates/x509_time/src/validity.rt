@@ -3,8 +3,8 @@
 ghost use Rattle.std.specs.Prelude.{◌≡◌, ◌↔◌, ◌+◌, ◌^◌, ◌<◌, ◌≤◌, ℕ, List, length, IfOk, IsTrue};
 ghost use Rattle.asn1_core.specs.Counts.{attempts};
 ghost use Rattle.asn1_any.specs.Views.{any_of};
-ghost use Rattle.asn1_traits.specs.Elements.{EndsWithinElement};
-ghost use Rattle.asn1_traits.specs.Reads.{Reads};
+ghost use Rattle.x509_core.specs.asn1_traits.specs.Elements.{EndsWithinElement};
+ghost use Rattle.x509_core.specs.asn1_traits.specs.Reads.{Reads};
 ghost use Rattle.x509_core.specs.Answers.{Gives, ElseMemory};
 ghost use Rattle.x509_core.specs.Errors.{told};
 ghost use Rattle.x509_core.specs.Grammar.{Holds};
@@ -18,11 +18,10 @@ use crate::leaves::next_time;
 use crate::time::ASN1Time;
 use asn1_any::Element;
 use asn1_core::{Err as Refusal, HeaderCount};
-use asn1_traits::{DerMeaning, FromDer};
 use jiff::SignedDuration;
 use jiff::civil::DateTime;
 use std::alloc::Global;
-use x509_core::{Parts, X509Error, X509Result, front_element, parts_of};
+use x509_core::{DerMeaning, FromDer, Parts, X509Error, X509Result, front_element, parts_of};
 
 /// A validity period: its first and last moment (RFC 5280, 4.1.2.5).
 #[derive(Clone, Debug, Drop, PartialEq, Eq)]

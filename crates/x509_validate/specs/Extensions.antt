@@ -8,9 +8,9 @@ use Rattle.asn1_core.specs.declared.outcome.Err.TheVariants as refusals
 use Rattle.asn1_oid.specs.Text.{oid_text}
 use Rattle.x509_ext_names.specs.declared.general_name.GeneralName.{GeneralName}
 use Rattle.x509_ext_names.specs.declared.general_name.GeneralName.TheVariants as names
-use Rattle.x509_ext.specs.Values.{ParsedExtension}
-use Rattle.x509_ext.specs.Kinds as cases
-use Rattle.x509_ext.specs.declared.extension.X509Extension.{X509Extension}
+use Rattle.x509_certs.specs.x509_ext.specs.Values.{ParsedExtension}
+use Rattle.x509_certs.specs.x509_ext.specs.Kinds as cases
+use Rattle.x509_certs.specs.x509_ext.specs.declared.extension.X509Extension.{X509Extension}
 use Rattle.x509_validate.specs.Messages.{Message, message, warning, fatal}
 use Rattle.x509_validate.specs.Names.{is_high}
 

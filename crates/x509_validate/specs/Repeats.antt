@@ -4,9 +4,9 @@ use Rattle.asn1_oid.specs.Text.{oid_text}
 use Rattle.x509_ext_policies.specs.Reading.{has}
 use Rattle.x509_ext_names.specs.declared.identifiers.AuthorityKeyIdentifier.{AuthorityKeyIdentifier}
 use Rattle.x509_ext_policies.specs.declared.policies.PolicyInformation.{PolicyInformation}
-use Rattle.x509_ext.specs.Values.{ParsedExtension}
-use Rattle.x509_ext.specs.Kinds as cases
-use Rattle.x509_ext.specs.declared.extension.X509Extension.{X509Extension}
+use Rattle.x509_certs.specs.x509_ext.specs.Values.{ParsedExtension}
+use Rattle.x509_certs.specs.x509_ext.specs.Kinds as cases
+use Rattle.x509_certs.specs.x509_ext.specs.declared.extension.X509Extension.{X509Extension}
 use Rattle.x509_validate.specs.Messages.{Message, message, warning, fault, fatal}
 use Rattle.x509_validate.specs.Extensions.{alternative_messages}
 

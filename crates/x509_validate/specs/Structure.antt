@@ -2,7 +2,7 @@
 use Rattle.std.specs.Prelude.{ℕ, ◌==◌, if◌then◌else◌, codes, Option, Some, None, List, [], ◌∷◌, ◌++◌}
 use Rattle.x509_names.specs.View.{name_view, key_view}
 use Rattle.x509_certs.specs.declared.tbs.TbsCertificate.{TbsCertificate}
-use Rattle.x509_ext.specs.declared.extension.X509Extension.{X509Extension}
+use Rattle.x509_certs.specs.x509_ext.specs.declared.extension.X509Extension.{X509Extension}
 use Rattle.x509_validate.specs.Messages.{Message, message, warning, fatal}
 use Rattle.x509_validate.specs.Names.{name_messages}
 use Rattle.x509_validate.specs.Keys.{key_messages}

@@ -11,7 +11,7 @@ use crate::name::has_high;
 use asn1_core::{Err as Refusal, Error};
 use asn1_oid::Oid;
 use std::alloc::{AllocError, Global};
-use x509_ext::{ParsedExtension, X509Extension};
+use x509_certs::{ParsedExtension, X509Extension};
 use x509_ext_names::GeneralName;
 
 fn unsupported(alloc: Global, oid: &Oid<'_>) -> Result<Message, AllocError>

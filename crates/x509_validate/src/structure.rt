@@ -13,8 +13,7 @@ use crate::name::push_name;
 use crate::parts::{push_serial, push_validity, push_version};
 use crate::validator::Validator;
 use std::alloc::{AllocError, Global};
-use x509_certs::{TbsCertificate, X509Certificate};
-use x509_ext::{UniqueIdentifier, X509Extension};
+use x509_certs::{TbsCertificate, UniqueIdentifier, X509Certificate, X509Extension};
 
 /// Validates the signed part of a certificate: version, serial number, names, key, times, unique
 /// identifiers and extensions.

@@ -5,9 +5,9 @@ use asn1_core::OutOfMemory;
 use rows_hex::Added;
 use std::alloc::Global;
 use std::slice;
-use x509_certs::X509Certificate;
-use x509_lists::{CertificateRevocationList, RevokedCertificate};
-use x509_requests::X509CriAttribute;
+use x509_parser::certificate::X509Certificate;
+use x509_parser::cri_attributes::X509CriAttribute;
+use x509_parser::revocation_list::{CertificateRevocationList, RevokedCertificate};
 
 /// A type whose values are copied.
 pub(crate) trait Copied: Sized {

@@ -8,8 +8,8 @@ use std::collections::BTreeMap;
 use std::slice;
 use x509_core::X509Error;
 use x509_ext::X509Extension;
-use x509_lists::{CertificateRevocationList, RevokedCertificate, TbsCertList};
-use x509_requests::X509CriAttribute;
+use x509_parser::cri_attributes::X509CriAttribute;
+use x509_parser::revocation_list::{CertificateRevocationList, RevokedCertificate, TbsCertList};
 
 /// A type whose values stand in maps by identifier.
 pub(crate) trait Mapped {

@@ -5,15 +5,13 @@ use crate::kinds::{Depth, Parser};
 use asn1_traits::FromDer;
 use rows_hex::Added;
 use std::alloc::Global;
-use x509_certs::{
-    TbsCertificate, TbsCertificateParser, X509Certificate, X509CertificateParser,
-    parse_x509_certificate, parse_x509_der,
-};
 use x509_core::X509Result;
 use x509_ext::{ParsedExtension, X509Extension, X509ExtensionParser};
-use x509_lists::{
-    CertificateRevocationList, CertificateRevocationListParser, parse_crl_der, parse_x509_crl,
+use x509_parser::certificate::{
+    TbsCertificate, TbsCertificateParser, X509Certificate, X509CertificateParser,
 };
+use x509_parser::revocation_list::{CertificateRevocationList, CertificateRevocationListParser};
+use x509_parser::{parse_crl_der, parse_x509_certificate, parse_x509_crl, parse_x509_der};
 
 /// Adds what is told of what the parser reads.
 pub(crate) fn add_parsed(text: &mut String, parser: Parser, octets: &[u8], is_read: bool) -> Added {

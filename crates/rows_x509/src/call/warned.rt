@@ -3,7 +3,7 @@
 use crate::validator::messages::{add_by_itself, add_log};
 use rows_hex::Added;
 use std::alloc::Global;
-use x509_validate::{LogError, Logger, Validate, Validator, VecLogger};
+use x509_parser::validate::{LogError, Logger, Validate, Validator, VecLogger};
 
 /// A number that warns of itself where it is above 10.
 #[derive(Clone, Copy, Debug)]

@@ -16,13 +16,13 @@ use asn1_core::HeaderCount;
 use asn1_oid::Oid;
 use rows_hex::{Added, add_hex, octets_of};
 use std::alloc::Global;
-use x509_certs::{TbsCertificate, X509Certificate, X509CertificateParser};
 use x509_core::Parts;
 use x509_ext::types::format_serial;
 use x509_ext::{
     UniqueIdentifier, X509Extension, X509Version, each_extension, find_extension,
     get_extension_unique, next_version,
 };
+use x509_parser::certificate::{TbsCertificate, X509Certificate, X509CertificateParser};
 
 /// Adds the version that begins a certificate's content, or the first one where none is written; then the octets that are left.
 pub(crate) fn add_version_at(text: &mut String, octets: &[u8]) -> Added {

@@ -4,9 +4,9 @@ use crate::kinds::Getter;
 use crate::words::{add_error, truth_text};
 use rows_hex::Added;
 use std::fmt::Debug;
-use x509_certs::X509Certificate;
 use x509_core::X509Error;
 use x509_ext::BasicExtension;
+use x509_parser::certificate::X509Certificate;
 
 /// Adds what the getter tells of the certificate.
 pub(crate) fn add_extension(

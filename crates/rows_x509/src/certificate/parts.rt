@@ -7,7 +7,7 @@ use x509_ext::{X509Extension, X509Version};
 use x509_names::{
     AlgorithmIdentifier, AttributeTypeAndValue, RSAPublicKey, RelativeDistinguishedName,
 };
-use x509_requests::ExtensionRequest;
+use x509_parser::cri_attributes::ExtensionRequest;
 use x509_time::{ASN1Time, Validity};
 
 /// Adds the part that begins the octets.

@@ -9,7 +9,7 @@ use crate::words::{Words, add, add_each, add_words_before, count_text};
 use asn1_core::HeaderCount;
 use rows_hex::{Added, add_hex};
 use std::alloc::Global;
-use x509_lists::{
+use x509_parser::revocation_list::{
     CertificateRevocationList, CertificateRevocationListParser, RevokedCertificate, TbsCertList,
 };
 

@@ -7,10 +7,8 @@ use crate::kinds::{OfAttribute, OfRequest, OfRequestInfo};
 use crate::words::{Words, add, add_each, add_words_before};
 use asn1_oid::Oid;
 use rows_hex::{Added, add_hex};
-use x509_requests::{
-    ExtensionRequest, ParsedCriAttribute, X509CertificationRequest, X509CertificationRequestInfo,
-    X509CriAttribute,
-};
+use x509_parser::certification_request::{X509CertificationRequest, X509CertificationRequestInfo};
+use x509_parser::cri_attributes::{ExtensionRequest, ParsedCriAttribute, X509CriAttribute};
 
 impl Called<OfRequest> for X509CertificationRequest<'_> {
     fn add_called(&self, text: &mut String, call: OfRequest, rest: &[u8]) -> Added {

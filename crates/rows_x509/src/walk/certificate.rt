@@ -4,7 +4,8 @@ ghost use Rattle.std.specs.Prelude.{⊤};
 
 use crate::walk::record::{Count, Record, add_record};
 use rows_hex::Added;
-use x509_certs::{CertVisit, CertVisits, TbsCertificate, X509Certificate, X509CertificateVisitor};
+use x509_parser::certificate::{TbsCertificate, X509Certificate};
+use x509_parser::visitor::{CertVisit, CertVisits, X509CertificateVisitor};
 
 impl CertVisits for Count {
     ghost sees = { λ old call new. ⊤ };

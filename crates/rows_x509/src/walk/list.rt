@@ -4,9 +4,8 @@ ghost use Rattle.std.specs.Prelude.{⊤};
 
 use crate::walk::record::{Count, Record, add_record};
 use rows_hex::Added;
-use x509_lists::{
-    CertificateRevocationList, CertificateRevocationListVisitor, ListVisit, ListVisits, TbsCertList,
-};
+use x509_parser::revocation_list::{CertificateRevocationList, TbsCertList};
+use x509_parser::visitor::{CertificateRevocationListVisitor, ListVisit, ListVisits};
 
 impl ListVisits for Count {
     ghost sees = { λ old call new. ⊤ };

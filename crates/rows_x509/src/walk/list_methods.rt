@@ -9,8 +9,9 @@ use x509_ext::types::{
     ReasonCode, SignedCertificateTimestamp,
 };
 use x509_ext::{X509Extension, X509Version};
-use x509_lists::{CertificateRevocationListVisitor, RevokedCertificate, TbsCertList};
 use x509_names::{AlgorithmIdentifier, X509Name};
+use x509_parser::revocation_list::{RevokedCertificate, TbsCertList};
+use x509_parser::visitor::CertificateRevocationListVisitor;
 use x509_time::ASN1Time;
 
 impl CertificateRevocationListVisitor for Record {

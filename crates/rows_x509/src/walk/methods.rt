@@ -3,7 +3,6 @@
 use crate::walk::record::Record;
 use asn1_core::{Err as Refusal, Error};
 use asn1_values::BitString;
-use x509_certs::{TbsCertificate, X509CertificateVisitor};
 use x509_ext::types::{
     AuthorityInfoAccess, AuthorityKeyIdentifier, BasicConstraints, CRLDistributionPoints,
     CertificatePolicies, ExtendedKeyUsage, InhibitAnyPolicy, IssuerAlternativeName, KeyIdentifier,
@@ -12,6 +11,8 @@ use x509_ext::types::{
 };
 use x509_ext::{UniqueIdentifier, X509Extension, X509Version};
 use x509_names::{AlgorithmIdentifier, SubjectPublicKeyInfo, X509Name};
+use x509_parser::certificate::TbsCertificate;
+use x509_parser::visitor::X509CertificateVisitor;
 use x509_time::Validity;
 
 impl X509CertificateVisitor for Record {

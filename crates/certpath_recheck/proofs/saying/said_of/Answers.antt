@@ -1,6 +1,6 @@
 use Rattle.std.proofs.Common.{◌≡◌, ◌∙◌, ap, sym, subst, length, false, None}
 use Rattle.cert_judge.specs.Items.{rules_by}
-use Rattle.cert_serving.specs.declared.permits.Permits.{Permits}
+use Rattle.certpath_inputs.specs.cert_serving.specs.declared.permits.Permits.{Permits}
 use Rattle.certpath_inputs.specs.Demands.{ArePermitsOf, VouchesWhere, demanded, is_none, of_purpose, target_octets}
 use Rattle.certpath_inputs.proofs.DemandFacts.{of_ok, on_some}
 use Rattle.certpath_recheck.specs.Recheck.{IsSaidOf}

@@ -1,5 +1,5 @@
 use Rattle.std.proofs.Common.{◌≡◌, ◌∙◌, length, sym, subst, string_bytes, true, false}
-use Rattle.cert_serving.specs.declared.permits.Permits.{Permits}
+use Rattle.certpath_inputs.specs.cert_serving.specs.declared.permits.Permits.{Permits}
 use Rattle.certpath_inputs.specs.Inputs.{VouchesBy}
 use Rattle.certpath_inputs.specs.Demands.{ArePermitsOf, VouchesWhere, demand_lines, demanded, is_none, target_octets}
 use Rattle.certpath_inputs.proofs.DemandFacts.{of_ok, on_neither, on_some}

@@ -1,5 +1,5 @@
-use Rattle.x509_ext_flags.specs.Extensions as grammar
-use Rattle.x509_ext_flags.specs.View.{usage_view}
+use Rattle.x509_ext_basic.specs.x509_ext_flags.specs.Extensions as grammar
+use Rattle.x509_ext_basic.specs.x509_ext_flags.specs.View.{usage_view}
 use Rattle.x509_ext_parse.proofs.FaultLaws.{by_reads}
 use Rattle.x509_ext_parse.proofs.flags.key_usage.Goals as goal
 

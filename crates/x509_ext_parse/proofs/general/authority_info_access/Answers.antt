@@ -1,5 +1,5 @@
-use Rattle.x509_ext_names.specs.Extensions as grammar
-use Rattle.x509_ext_names.specs.View.{authority_info_view}
+use Rattle.x509_ext_points.specs.x509_ext_names.specs.Extensions as grammar
+use Rattle.x509_ext_points.specs.x509_ext_names.specs.View.{authority_info_view}
 use Rattle.x509_ext_parse.proofs.FaultLaws.{by_reads}
 use Rattle.x509_ext_parse.proofs.general.authority_info_access.Goals as goal
 

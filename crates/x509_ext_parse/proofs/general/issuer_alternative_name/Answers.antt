@@ -1,5 +1,5 @@
-use Rattle.x509_ext_names.specs.Extensions as grammar
-use Rattle.x509_ext_names.specs.View.{issuer_names_view}
+use Rattle.x509_ext_points.specs.x509_ext_names.specs.Extensions as grammar
+use Rattle.x509_ext_points.specs.x509_ext_names.specs.View.{issuer_names_view}
 use Rattle.x509_ext_parse.proofs.FaultLaws.{by_reads}
 use Rattle.x509_ext_parse.proofs.general.issuer_alternative_name.Goals as goal
 

@@ -1,5 +1,5 @@
 use Rattle.std.proofs.Common.{ℕ, List, Bor}
-use Rattle.x509_time.specs.declared.time.ASN1Time.{ASN1Time}
+use Rattle.x509_ext_basic.specs.x509_time.specs.declared.time.ASN1Time.{ASN1Time}
 use Rattle.x509_ext_parse.proofs.FaultLaws.{by_refused}
 use Rattle.x509_ext_parse.proofs.leaves.invalidity_date.Goals as goal
 

@@ -1,5 +1,5 @@
-use Rattle.x509_ext_policies.specs.Purposes as grammar
-use Rattle.x509_ext_policies.specs.View.{purposes_view}
+use Rattle.x509_ext_points.specs.x509_ext_policies.specs.Purposes as grammar
+use Rattle.x509_ext_points.specs.x509_ext_policies.specs.View.{purposes_view}
 use Rattle.x509_ext_parse.proofs.FaultLaws.{by_reads}
 use Rattle.x509_ext_parse.proofs.others.extended_key_usage.Goals as goal
 

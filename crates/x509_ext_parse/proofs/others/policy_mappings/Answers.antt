@@ -1,5 +1,5 @@
-use Rattle.x509_ext_policies.specs.Policies as grammar
-use Rattle.x509_ext_policies.specs.View.{mappings_view}
+use Rattle.x509_ext_points.specs.x509_ext_policies.specs.Policies as grammar
+use Rattle.x509_ext_points.specs.x509_ext_policies.specs.View.{mappings_view}
 use Rattle.x509_ext_parse.proofs.FaultLaws.{by_reads}
 use Rattle.x509_ext_parse.proofs.others.policy_mappings.Goals as goal
 

@@ -1,9 +1,9 @@
 use Rattle.std.proofs.Common.{◌≡◌, ℕ, true, List, ◌∷◌, ◌++◌, map, refl, sym, ap, ◌∙◌, append-nil, rules}
 use Rattle.std.proofs.Output.{has_written_append, has_written_of_eq}
 use Rattle.std.proofs.lemmas.List.{nil_from_length}
-use Rattle.asn1_oid.specs.Joining.{joined_after, separator_text}
-use Rattle.asn1_oid.specs.Text.{hex_pair}
-use Rattle.asn1_oid.proofs.Joined.{joined, regroup}
+use Rattle.x509_core.specs.asn1_oid.specs.Joining.{joined_after, separator_text}
+use Rattle.x509_core.specs.asn1_oid.specs.Text.{hex_pair}
+use Rattle.x509_core.specs.asn1_oid.proofs.Joined.{joined, regroup}
 use Rattle.x509_items.proofs.text.write_octets.Goals as goal
 
 pub loop-octet-preserved : goal.loop-octet-preserved

@@ -1,7 +1,7 @@
 use Rattle.std.proofs.Common.{◌≡◌, ℕ, List, ◌++◌, length, map}
 use Rattle.std.specs.Fmt.{HasWritten, IsPlainFormatter}
-use Rattle.asn1_oid.specs.Joining.{joined_after}
-use Rattle.asn1_oid.specs.Text.{hex_pair}
+use Rattle.x509_core.specs.asn1_oid.specs.Joining.{joined_after}
+use Rattle.x509_core.specs.asn1_oid.specs.Text.{hex_pair}
 use Rattle.x509_items.proofs.text.write_octets.Given as goal
 
 -- what was written, and what is left to write

@@ -1,0 +1,1 @@
+pub use Rattle.x509_validate as x509_validate
