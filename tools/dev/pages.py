@@ -93,7 +93,7 @@ def reader_of(kind):
 def extensions():
     kinds = text("crates/x509_ext_parse/src/kind.rt")
     parsed = text("crates/x509_ext_parse/specs/Parsed.antt")
-    homes = {name.strip(): f"{crate}/specs/{page}" for crate, page, names in re.findall(r"use Rattle\.(\w+)\.specs\.(\w+)\.\{([^}]*)\}", parsed)
+    homes = {name.strip(): f"{crate}/specs/{page}" for crate, page, names in re.findall(r"use Rattle\.(?:\w+\.specs\.)*(\w+)\.specs\.(\w+)\.\{([^}]*)\}", parsed)
              for name in names.split(",")}
     rows = []
     for kind, octets in re.findall(r'Kind::(\w+) => b"((?:\\x[0-9a-f]{2})+)"', kinds):

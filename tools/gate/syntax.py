@@ -12,6 +12,8 @@ FUNCTION = re.compile(r"(?m)^[ \t]*(?:pub(?:\([\w ]+\))? )?(?:const |unsafe |ext
 BLOCK = re.compile(r"(?m)^[ \t]*(?:pub(?:\([\w ]+\))? )?(?:impl\b|trait\b|mod\b)[^{};]*\{")
 TYPE = re.compile(r"(?m)^(?:pub(?:\([\w ]+\))? )?(struct|enum|trait|type|const) (\w+)")
 GHOST_USE = re.compile(r"ghost use ([\w.]+)(?:\.\{([^}]*)\}| as (\w+))?;")
+# The crates in a path of `use` that hand a crate on, by `pub use Rattle.low as low` in their specs/Lib.antt.
+HANDING_ON = re.compile(r"^Rattle\.(?:\w+\.specs\.)+(?=\w+\.(?:specs|proofs)\b)")
 RUST_USE = re.compile(r"(?m)^[ \t]*(?:pub(?:\([\w ]+\))? )?use ([^;]+);")
 BRACKETS = {"(": re.compile(r"[()]"), "{": re.compile(r"[{}]"), "[": re.compile(r"[\[\]]")}
 NOTHING = re.compile(r"\{\s*\}")
@@ -166,6 +168,7 @@ def use_leaves(text):
 
 def add_use(names, modules, path, listed, alias):
     """Puts the names of a line `use PATH.{..}` of specs among the names, or the alias of `use PATH as ..` among the modules."""
+    path = HANDING_ON.sub("Rattle.", path)
     if listed is None:
         if alias:
             modules[alias] = path
