@@ -54,7 +54,7 @@ impl<'a> GeneralName<'a> {
     /// # Errors
     ///
     /// Out of memory, for the copied vectors.
-    #[tactic(auto, using(x509_ext_flags::specs::x509_names::proofs::Copied::same_name))]
+    #[tactic(auto, using(crate::proofs::CopiedNames::same_name))]
     pub fn clone(&self, alloc: Global) -> Result<GeneralName<'a>, OutOfMemory>
         ensures { IfOk result (λ copy. general_name_view copy ≡ general_name_view self.now) }
     {
