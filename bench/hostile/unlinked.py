@@ -44,13 +44,49 @@ def kinds_lists(count):
 
 
 @family("why-rows-lists", "n/2 certificates of one name and key, all linked but for n/2 used "
-        "lists, the i-th of which has the serial numbers of certificates i and i + 1", "why",
-        **OF_SQUARE, known=OF_LINKS)
+        "lists, the i-th of which has the serial numbers of certificates i and i + 1", "why", **OF_SQUARE)
 def rows_lists(count):
     half = count // 2
     items = [certificate(X, X, COMMON_KEY, it) for it in range(half)]
     found = [revocation_list(X, entry(integer(it)) + entry(integer(it + 1))) for it in range(half)]
     return by_common_key([*items, *found])
+
+
+@family("why-rows-anchors", "a leaf, n/4 certificates of its issuer's name and one key, n/2 anchors of "
+        "their issuer's name and one key, and n/4 used lists with a serial number each", "why",
+        **OF_SQUARE)
+def rows_anchors(count):
+    quarter = count // 4
+    items = [certificate(LEAF, Y, COMMON_KEY), *(certificate(Y, X, COMMON_KEY, it) for it in range(quarter))]
+    found = [revocation_list(X, entry(integer(it))) for it in range(quarter)]
+    made = by_common_key([*items, *found])
+    return made._replace(anchors=[certificate(X, X, COMMON_KEY, it) for it in range(count // 2)])
+
+
+@family("why-rows-bounds", "a leaf, n/3 certificates of its issuer's name, n/3 of their issuer's name "
+        "and one key, and n/3 lists with a serial number each that nobody vouches for; the first of "
+        "the second leads to the anchor with nothing below it", "why", **OF_SQUARE)
+def rows_bounds(count):
+    third = count // 3
+    leaf = certificate(LEAF, X, COMMON_KEY)
+    below = [certificate(X, Y, COMMON_KEY, 1 + it) for it in range(third)]
+    first = certificate(Y, ROOT, COMMON_KEY, limit=0)
+    above = [first, *(certificate(Y, ROOT, COMMON_KEY, 1 + it) for it in range(1, third))]
+    found = [revocation_list(Y, entry(integer(1 + it))) for it in range(third)]
+    lines = [voucher(COMMON_KEY, it) for it in [leaf, *below]] + [voucher(ROOT_KEY, first)]
+    return Files([leaf, *below, *above, *found], [ANCHOR], lines)
+
+
+@family("why-rows-keys", "n/3 certificates of one name and key, a used list with their serial numbers, "
+        "and n/3 lists with one of them each, each used by one of n/3 other keys of their issuer's "
+        "name", "why", **OF_SQUARE, known=OF_LINKS)
+def rows_keys(count):
+    third = count // 3
+    items = [certificate(X, X, COMMON_KEY, it) for it in range(third)]
+    common = revocation_list(X, b"".join(entry(integer(it)) for it in range(third)))
+    found = [revocation_list(X, entry(integer(it))) for it in range(third)]
+    lines = [voucher(COMMON_KEY, it) for it in [*items, common]] + vouched(found)
+    return Files([*items, common, *found, *own_keys(third, X, ROOT)], [ANCHOR], lines)
 
 
 def below(count):

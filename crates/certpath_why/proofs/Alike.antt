@@ -60,36 +60,59 @@ in_row c h p q n m w same name i = (
   λ o. let a = i.2 o in (a.0 ∙ name, a.1),
 )
 
+-- what items have in common whose issuers have one name, and that have one number
+pub signed_alike : (V : Vouching) (xs ys : List ReadItem) (c : Classes) (firsts : List ℕ) (p q : ℕ) (x y : CertificateItem) (f g : ℕ) → AreSignedFirsts V.Vouches xs ys c firsts → IsAt xs p (λ z. z ≡ certificate_read x) → IsAt xs q (λ z. z ≡ certificate_read y)
+    → HasSubject (map item_of ys) x.issuer.now f → HasSubject (map item_of ys) y.issuer.now g → f ≡ g → number_at c firsts p ≡ number_at c firsts q
+    → (x.issuer.now ≡ y.issuer.now) × ((w : ℕ) → IsSignedBy V.Vouches (map item_of ys) (certificate_item x) w ↔ IsSignedBy V.Vouches (map item_of ys) (certificate_item y) w)
+signed_alike V xs ys c firsts p q x y f g are at bt mine yours first number =
+    let h = are.holders in
+    let signed = are.signed_are in
+    let same = (firsts_iff h.rows.items firsts are.firsts_are (get_or c.numbers.items p 0) (get_or c.numbers.items q 0) (signed_row V.Vouches xs ys c h signed p at.0) (signed_row V.Vouches xs ys c h signed q bt.0)).0 number in
+    let name : x.issuer.now ≡ y.issuer.now = one_subject (map item_of ys) g x.issuer.now y.issuer.now (subst (HasSubject (map item_of ys) x.issuer.now) first mine) yours in (
+      name,
+      λ w.
+          let one = signed_iff V.Vouches xs ys c h signed p (certificate_read x) x.issuer.now at (ap Some (sym x.issuer_is)) w in
+          let two = signed_iff V.Vouches xs ys c h signed q (certificate_read y) y.issuer.now bt (ap Some (sym y.issuer_is)) w in (
+            λ s. two.0 (in_row c h p q x.issuer.now y.issuer.now w same name (one.1 s)),
+            λ s. one.0 (in_row c h q p y.issuer.now x.issuer.now w (λ r. sym (same r)) (sym name) (two.1 s)),
+          ),
+    )
+
 pub alike : (V : Vouching) (moment : DateTime) (xs ys : List ReadItem) (c : Classes) (rows : List (Vec ℕ Global)) (firsts : List ℕ) (Agree : Certificate → Certificate → Type 0) (n m : Option (List ℕ)) (p q : ℕ) (x y : CertificateItem) (kind : List ℕ)
     → AreSignedFirsts V.Vouches xs ys c firsts → IsAt xs p (λ z. z ≡ certificate_read x) → IsAt xs q (λ z. z ≡ certificate_read y)
     → IsKind xs (map item_of ys) moment c rows firsts n p x kind → IsKind xs (map item_of ys) moment c rows firsts m q y kind
     → (n ≡ m → (d : Certificate) → Agree (certificate_of x) d ↔ Agree (certificate_of y) d)
     → AreAlike V moment xs (map item_of ys) Agree x y
 alike V moment xs ys c rows firsts Agree n m p q x y kind are at bt a b agree =
-    let h = are.holders in
-    let signed = are.signed_are in
     let parts = kind_parts a.first b.first (number_at c firsts p) (number_at c firsts q) a.row b.row n m (sym a.kind_is ∙ b.kind_is) in
-    let first = parts.0 in
     let named = parts.3 in
     let d = (element_at rows a.row a.row_is.0).0 in
     let mine = a.row_is.1 d in
     let yours = subst (λ k. ArePlacesOf xs moment y (get_or rows k d).items) (sym parts.2) (b.row_is.1 d) in
-    let same = (firsts_iff h.rows.items firsts are.firsts_are (get_or c.numbers.items p 0) (get_or c.numbers.items q 0) (signed_row V.Vouches xs ys c h signed p at.0) (signed_row V.Vouches xs ys c h signed q bt.0)).0 parts.1 in
-    let name : x.issuer.now ≡ y.issuer.now = one_subject (map item_of ys) b.first x.issuer.now y.issuer.now (subst (HasSubject (map item_of ys) x.issuer.now) first a.first_is) b.first_is in
+    let both = signed_alike V xs ys c firsts p q x y a.first b.first are at bt a.first_is b.first_is parts.0 parts.1 in
     record {
-      name = name;
+      name = both.0;
       agree = agree named;
-      signed = λ w.
-          let one = signed_iff V.Vouches xs ys c h signed p (certificate_read x) x.issuer.now at (ap Some (sym x.issuer_is)) w in
-          let two = signed_iff V.Vouches xs ys c h signed q (certificate_read y) y.issuer.now bt (ap Some (sym y.issuer_is)) w in (
-            λ s. two.0 (in_row c h p q x.issuer.now y.issuer.now w same name (one.1 s)),
-            λ s. one.0 (in_row c h q p y.issuer.now x.issuer.now w (λ r. sym (same r)) (sym name) (two.1 s)),
-          );
+      signed = both.1;
       revoked = λ s. (
         λ g. (yours.exact s).0 ((mine.exact s).1 g),
         λ g. (mine.exact s).0 ((yours.exact s).1 g),
       );
     }
+
+-- whoever doesn't vouch for the one doesn't for the other
+pub unvouched_alike : (V : Vouching) (others : List Item) (x y : CertificateItem) → x.issuer.now ≡ y.issuer.now → ((w : ℕ) → IsSignedBy V.Vouches others (certificate_item x) w ↔ IsSignedBy V.Vouches others (certificate_item y) w)
+    → (w : ℕ) → IsAt others w (IsCertificateWith (λ d. (name_octets d.subject ≡ name_octets (certificate_of x).issuer) × (V.Vouches (key_octets d.key) x.octets.now → ⊥)))
+    → IsAt others w (IsCertificateWith (λ d. (name_octets d.subject ≡ name_octets (certificate_of y).issuer) × (V.Vouches (key_octets d.key) y.octets.now → ⊥)))
+unvouched_alike V others x y name signed w h =
+    let Against : CertificateItem → Certificate → Type 0 = λ i d. (name_octets d.subject ≡ name_octets (certificate_of i).issuer) × (V.Vouches (key_octets d.key) i.octets.now → ⊥) in
+    let By : CertificateItem → Certificate → Type 0 = λ i d. (Some (name_octets (certificate_of i).issuer) ≡ Some (name_octets d.subject)) × V.Vouches (key_octets d.key) i.octets.now in
+    let z = cert_here others w (Against x) h in
+    let same = z.5.0 ∙ (sym x.issuer_is ∙ name ∙ y.issuer_is) in
+    (cert_iff others w z.0 z.1 z.2 z.3 z.4 (Against y)).0 (
+      same,
+      λ v. z.5.1 ((cert_iff others w z.0 z.1 z.2 z.3 z.4 (By x)).1 ((signed w).1 ((cert_iff others w z.0 z.1 z.2 z.3 z.4 (By y)).0 (ap Some (sym same), v)))).1,
+    )
 
 -- ---- key identifiers
 
@@ -137,13 +160,7 @@ module _ (V : Vouching) (moment : DateTime) (demand : Bool) (xs : List ReadItem)
   Signs x d = (Some (name_octets (certificate_of x).issuer) ≡ Some (name_octets d.subject)) × V.Vouches (key_octets d.key) x.octets.now
 
   pub fails_alike : (x y : CertificateItem) → AreAlike V moment xs others Agree x y → (reason : Unlinked) (w : ℕ) → IsAt others w (IsCertificateWith (Fails x reason)) → IsAt others w (IsCertificateWith (Fails y reason))
-  fails_alike x y a NotVouched w h =
-      let z = cert_here others w (Fails x NotVouched) h in
-      let same = z.5.0 ∙ names_alike x y a in
-      (cert_iff others w z.0 z.1 z.2 z.3 z.4 (Fails y NotVouched)).0 (
-        same,
-        λ v. z.5.1 ((cert_iff others w z.0 z.1 z.2 z.3 z.4 (Signs x)).1 ((a.signed w).1 ((cert_iff others w z.0 z.1 z.2 z.3 z.4 (Signs y)).0 (ap Some (sym same), v)))).1,
-      )
+  fails_alike x y a NotVouched w h = unvouched_alike V others x y a.name a.signed w h
   fails_alike x y a KeyIdsDiffer w h =
       let z = cert_here others w (Fails x KeyIdsDiffer) h in
       (cert_iff others w z.0 z.1 z.2 z.3 z.4 (Fails y KeyIdsDiffer)).0 (z.5.0 ∙ names_alike x y a, λ e. z.5.1 ((a.agree z.1).1 e))

@@ -22,16 +22,17 @@ use Rattle.cert_judge.specs.Vouching.{Vouching}
 use Rattle.certpath_why.specs.Found.{IsMarked, AreMarked}
 use Rattle.certpath_why.specs.Held.{AreBareMarked, HoldsBack, MayHoldBack}
 use Rattle.certpath_why.specs.Issuing.{AgreesAt, IsIssuedAt}
-use Rattle.certpath_why.specs.Kinds.{IsKind, kind_cmp}
+use Rattle.certpath_why.specs.Kinds.{IsGroup, kind_cmp}
 use Rattle.certpath_why.specs.Named.{AreGathered}
 use Rattle.certpath_why.specs.Reached.{HasSubject, IsCertificateAt}
+use Rattle.certpath_why.specs.Sharing.{AreShared}
 use Rattle.certpath_why.specs.Signers.{AreSignedFirsts, IsSignedBy}
 use Rattle.certpath_why.specs.declared.classes.Classes.{Classes}
 use Rattle.certpath_why.specs.declared.named.Issuers.{Issuers}
-use Rattle.certpath_why.proofs.Alike.{alike, anyhow, issues_alike, turned}
-use Rattle.certpath_why.proofs.Issues.{linked_anchor_iff, linked_iff}
+use Rattle.certpath_why.proofs.Issues.{issued_grouped, linked_anchor_iff, linked_iff}
 use Rattle.certpath_why.proofs.Items.{at_read, with_read}
 use Rattle.certpath_why.proofs.Naming.{gathered_as}
+use Rattle.certpath_why.proofs.Sharing.{grouped}
 
 -- whether the code finds no reason against a link, whatever the key identifiers are
 pub issued_there : (V : Vouching) (moment : DateTime) (demand : Bool) (read : List ReadItem) (x y : CertificateItem) (v : ℕ) (none : Type 0) → IsAt read v (λ z. z ≡ certificate_read y) → HasSubject (map item_of read) x.issuer.now v
@@ -114,19 +115,16 @@ module _ (V : Vouching) (moment : DateTime) (demand : Bool) (xs : List ReadItem)
 -- ---- those of a group
 
 -- they are those of each certificate of the group
-pub group_alike : (V : Vouching) (moment : DateTime) (demand : Bool) (xs : List ReadItem) (c : Classes) (rows : List (Vec ℕ Global)) (firsts : List ℕ) (reach : ℕ → Reach) (p q : ℕ) (x y : CertificateItem) (kind : List ℕ) (under : Issuers) → AreSignedFirsts V.Vouches xs xs c firsts
-    → IsAt xs p (λ z. z ≡ certificate_read x) → IsAt xs q (λ z. z ≡ certificate_read y) → IsKind xs (map item_of xs) moment c rows firsts None p x kind → IsKind xs (map item_of xs) moment c rows firsts None q y kind
+pub group_alike : (V : Vouching) (moment : DateTime) (demand : Bool) (xs : List ReadItem) (c : Classes) (rows : List (Vec ℕ Global)) (shared firsts : List ℕ) (reach : ℕ → Reach) (p q : ℕ) (x y : CertificateItem) (kind : List ℕ) (under : Issuers)
+    → AreSignedFirsts V.Vouches xs xs c firsts → AreShared c firsts rows shared → IsAt xs p (λ z. z ≡ certificate_read x) → IsAt xs q (λ z. z ≡ certificate_read y)
+    → IsGroup xs (map item_of xs) moment c rows shared firsts p x kind → IsGroup xs (map item_of xs) moment c rows shared firsts q y kind
     → AreGathered xs (MayHoldBack (rules_by moment demand V) (map item_of xs) reach x) under → AreGathered xs (MayHoldBack (rules_by moment demand V) (map item_of xs) reach y) under
-group_alike V moment demand xs c rows firsts reach p q x y kind under are at bt a b gathered =
+group_alike V moment demand xs c rows shared firsts reach p q x y kind under are share at bt a b gathered =
     let r = rules_by moment demand V in
     let items = map item_of xs in
-    let there = alike V moment xs xs c rows firsts anyhow None None p q x y kind are at bt a b (λ e d. ((λ u. u), (λ u. u))) in
-    let back = turned there in
+    let both = grouped V moment xs xs c rows shared firsts p q x y kind are share at bt a b in
     gathered_as xs (MayHoldBack r items reach x) (MayHoldBack r items reach y) under
-    (λ w. (
-      λ h. (h.0, let t = issues_alike V moment demand xs items anyhow x y there w (h.1.0, λ e. let k = h.1.1 e in (k.0, k.1, (k.2, tt))) in (t.0, λ e. let k = t.1 e in (k.0, k.1, k.2.0))),
-      λ h. (h.0, let t = issues_alike V moment demand xs items anyhow y x back w (h.1.0, λ e. let k = h.1.1 e in (k.0, k.1, (k.2, tt))) in (t.0, λ e. let k = t.1 e in (k.0, k.1, k.2.0))),
-    )) gathered
+    (λ w. let iff = issued_grouped V moment demand xs items x y both w in (λ h. (h.0, iff.0 h.1), λ h. (h.0, iff.1 h.1))) gathered
 
 some_none : {X : Type 0} {x : X} → Some x ≡ None → ⊥
 some_none e = cc

@@ -15,30 +15,35 @@ use Rattle.cert_judge.specs.ItemGraph.{IsCertificateWith, IsIssuedUnder, KeyIdsA
 use Rattle.cert_judge.specs.Items.{item_of, certificate_of, certificate_item, rules_by}
 use Rattle.cert_judge.specs.Revoking.{Item, HasUsedList}
 use Rattle.cert_judge.specs.Vouching.{Vouching}
-use Rattle.cert_reasons.specs.declared.links.Unlinked.TheVariants.{NotVouched, RevokedBy}
+use Rattle.cert_reasons.specs.declared.links.Unlinked.TheVariants.{RevokedBy}
 use Rattle.cert_reasons.specs.Links.{Revokes}
 use Rattle.cert_reasons.specs.Listed.{ArePlaces, IsInForceAt, HasSerialAt}
 use Rattle.cert_reasons.proofs.Marks.{both_named, none_named, none_own}
 use Rattle.cert_reasons.proofs.OfLinks.{no_reason}
 use Rattle.certpath_why.specs.Cuts.{CutsTo, IsCutOf}
+use Rattle.certpath_why.specs.Groups.{AreGroups}
 use Rattle.certpath_why.specs.Issuing.{AgreesAt, IsIssued, IsIssuedAt, IsUnvouchedAt}
-use Rattle.certpath_why.specs.Kinds.{IsKind}
+use Rattle.certpath_why.specs.Kinds.{IsGroup}
 use Rattle.certpath_why.specs.Named.{AreGathered, HasId, IsOwnId, own_id}
 use Rattle.certpath_why.specs.Reached.{ArePositions, IsCertificateAt}
+use Rattle.certpath_why.specs.Sharing.{AreShared}
 use Rattle.certpath_why.specs.Signers.{AreSignedFirsts, IsSignedBy, SignsAny}
 use Rattle.certpath_why.specs.Used.{HasListAt}
-use Rattle.certpath_why.specs.Why.{IsLinkedTo, IsLinkedToAnchor}
+use Rattle.certpath_why.specs.Why.{FailsToAnchor, IsLinkedTo, IsLinkedToAnchor}
 use Rattle.certpath_why.specs.declared.classes.Classes.{Classes}
 use Rattle.certpath_why.specs.declared.cuts.Cut.{Cut}
 use Rattle.certpath_why.specs.declared.issuing.Issued.{Issued}
+use Rattle.certpath_why.specs.declared.links.Groups.{Groups}
 use Rattle.certpath_why.specs.declared.named.Issuers.{Issuers}
+use Rattle.certpath_why.specs.declared.ranges.Range.{Range}
 use Rattle.certpath_why.proofs.Against.{list_there, revoked_listed, signs_revoked}
-use Rattle.certpath_why.proofs.Alike.{alike, anchor_from, anchor_to, anyhow, fails_alike, Issues, issues_alike, linked_from, linked_to, AreAlike, turned}
+use Rattle.certpath_why.proofs.Alike.{anchor_from, anchor_to, Issues, linked_from, linked_to, unvouched_alike}
 use Rattle.certpath_why.proofs.Cutting.{cut_as}
 use Rattle.certpath_why.proofs.Fating.{ranges_as}
 use Rattle.certpath_why.proofs.Grouped.{cert_here, cert_iff}
 use Rattle.certpath_why.proofs.Items.{held, with_read}
 use Rattle.certpath_why.proofs.Naming.{certificate_there, gathered_as, has_none, has_some, names_none, names_some, own_read}
+use Rattle.certpath_why.proofs.Sharing.{any_of, grouped, AreGrouped}
 use Rattle.certpath_why.proofs.Using.{signs_there}
 
 -- ---- issued under a name and key
@@ -142,24 +147,46 @@ linked_anchor_iff V moment demand xs ys x a = (
   λ l. let t = anchor_to V moment demand xs ys x a l in (t.0, λ e. let q = t.1 e in (q.0, q.1, q.2.0)),
 )
 
--- ---- certificates that are alike
+-- ---- certificates of one group
 
-pub issued_alike : (V : Vouching) (moment : DateTime) (demand : Bool) (xs ys : List ReadItem) (c : Classes) (rows : List (Vec ℕ Global)) (firsts : List ℕ) (p q : ℕ) (x y : CertificateItem) (kind : Vec ℕ Global) (i : Issued) → AreSignedFirsts V.Vouches xs ys c firsts
-    → IsAt xs p (λ z. z ≡ certificate_read x) → IsAt xs q (λ z. z ≡ certificate_read y) → IsKind xs (map item_of ys) moment c rows firsts None p x kind.items → IsKind xs (map item_of ys) moment c rows firsts None q y kind.items
-    → IsIssued (rules_by moment demand V) (map item_of xs) ys x i → IsIssued (rules_by moment demand V) (map item_of xs) ys y i
-issued_alike V moment demand xs ys c rows firsts p q x y kind i are at bt a b is =
+pub issued_grouped : (V : Vouching) (moment : DateTime) (demand : Bool) (xs : List ReadItem) (others : List Item) (x y : CertificateItem) → AreGrouped V moment xs others x y
+    → (w : ℕ) → IsIssuedAt (rules_by moment demand V) (map item_of xs) others x w ↔ IsIssuedAt (rules_by moment demand V) (map item_of xs) others y w
+issued_grouped V moment demand xs others x y both w =
+    let mine = issued_iff V moment demand xs others x both.row both.row_are w in
+    let yours = issued_iff V moment demand xs others y both.other both.other_are w in
+    let H = λ (n : List ℕ). HasListAt (rules_by moment demand V) (map item_of xs) others n w in (
+      λ i. let h = mine.1 i in yours.0 ((both.signed w).0 h.0, λ s. h.1 ((both.revoked w).1 s), λ d. subst H both.name (h.2 d)),
+      λ i. let h = yours.1 i in mine.0 ((both.signed w).1 h.0, λ s. h.1 ((both.revoked w).0 s), λ d. subst H (sym both.name) (h.2 d)),
+    )
+
+pub issued_alike : (V : Vouching) (moment : DateTime) (demand : Bool) (xs ys : List ReadItem) (c : Classes) (rows : List (Vec ℕ Global)) (shared firsts : List ℕ) (p q : ℕ) (x y : CertificateItem) (kind : Vec ℕ Global) (i : Issued)
+    → AreSignedFirsts V.Vouches xs ys c firsts → AreShared c firsts rows shared → IsAt xs p (λ z. z ≡ certificate_read x) → IsAt xs q (λ z. z ≡ certificate_read y)
+    → IsGroup xs (map item_of ys) moment c rows shared firsts p x kind.items → IsGroup xs (map item_of ys) moment c rows shared firsts q y kind.items
+    → IsIssued (rules_by moment demand V) moment xs ys x i → IsIssued (rules_by moment demand V) moment xs ys y i
+issued_alike V moment demand xs ys c rows shared firsts p q x y kind i are share at bt a b is =
     let r = rules_by moment demand V in
     let others = map item_of ys in
-    let same = alike V moment xs ys c rows firsts anyhow None None p q x y kind.items are at bt a b (λ e d. ((λ u. u), (λ u. u))) in
-    let back = turned same in
-    let unvouched : (u v : CertificateItem) → AreAlike V moment xs others anyhow u v → (w : ℕ) → IsUnvouchedAt r others u w → IsUnvouchedAt r others v w = λ u v s w f. fails_alike V moment demand xs others anyhow u v s NotVouched w f in
-    let under : (u v : CertificateItem) → AreAlike V moment xs others anyhow u v → (w : ℕ) → IsIssuedAt r (map item_of xs) others u w → IsIssuedAt r (map item_of xs) others v w = λ u v s w f.
-    let t = issues_alike V moment demand xs others anyhow u v s w (f.0, λ e. let k = f.1 e in (k.0, k.1, (k.2, tt))) in
-    (t.0, λ e. let k = t.1 e in (k.0, k.1, k.2.0)) in
+    let both = grouped V moment xs ys c rows shared firsts p q x y kind.items are share at bt a b in
+    let back : (w : ℕ) → IsSignedBy V.Vouches others (certificate_item y) w ↔ IsSignedBy V.Vouches others (certificate_item x) w = λ w. ((both.signed w).1, (both.signed w).0) in
     record {
-      unvouched = cut_as (IsUnvouchedAt r others x) (IsUnvouchedAt r others y) i.unvouched (λ w. (unvouched x y same w, unvouched y x back w)) is.unvouched;
-      under = gathered_as ys (IsIssuedAt r (map item_of xs) others x) (IsIssuedAt r (map item_of xs) others y) i.under (λ w. (under x y same w, under y x back w)) is.under;
+      unvouched = cut_as (IsUnvouchedAt r others x) (IsUnvouchedAt r others y) i.unvouched (λ w. (unvouched_alike V others x y both.name both.signed w, unvouched_alike V others y x (sym both.name) back w)) is.unvouched;
+      revoked = λ row places. cut_as (SignsAny V.Vouches xs others both.row) (SignsAny V.Vouches xs others row) i.revoked
+          (λ w. (
+            λ s. any_of V.Vouches xs moment others y both.other row both.other_are places w ((both.revoked w).0 s),
+            λ s. (both.revoked w).1 (any_of V.Vouches xs moment others y row both.other places both.other_are w s),
+          )) (is.revoked both.row both.row_are);
+      under = gathered_as ys (IsIssuedAt r (map item_of xs) others x) (IsIssuedAt r (map item_of xs) others y) i.under (issued_grouped V moment demand xs others x y both) is.under;
     }
+
+-- the links to anchors
+pub anchor_groups : (V : Vouching) (moment : DateTime) (demand : Bool) (xs ys : List ReadItem) (x : CertificateItem) (i : Issued) (g : Groups) → IsIssued (rules_by moment demand V) moment xs ys x i → CutsTo i.under.all.items g.linked
+    → ((rs : List Range) → CutsTo rs i.unvouched → CutsTo rs g.unvouched)
+    → AreGroups (IsLinkedToAnchor (rules_by moment demand V) (map item_of xs) (map item_of ys) (certificate_item x)) (FailsToAnchor (rules_by moment demand V) (map item_of xs) (map item_of ys) (certificate_item x) (certificate_of x)) g
+anchor_groups V moment demand xs ys x i g is linked unvouched =
+    let exact = is.under.places.exact in
+    let iff = λ (w : ℕ). let a = linked_anchor_iff V moment demand xs ys x w in (λ c. a.0 ((exact w).0 c), λ l. (exact w).1 (a.1 l)) in
+    let u = is.unvouched in
+    record { linked = (i.under.all.items, ranges_as i.under.all.items iff is.under.all, linked); unvouched = (u.0, u.1, unvouched u.0 u.2) }
 
 -- ---- key identifiers
 

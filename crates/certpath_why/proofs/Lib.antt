@@ -37,6 +37,7 @@ mod Keeping
 mod Using
 mod Revokers
 mod Rowed
+mod Sharing
 mod Writing
 mod Issues
 mod Unlike

@@ -1,6 +1,6 @@
 -- Lists of a row, and for whom they are the first to revoke.
-use Rattle.std.specs.Prelude.{◌↔◌, ◌⊎◌, IsTrue, not}
-use Rattle.std.proofs.Common.{Bool, true, false, ◌≡◌, ◌∙◌, ap, sym, subst, refl, ℕ, ◌+◌, ◌<◌, ◌≤◌, cond, eqb-true, eq-eqb, List, [], ◌∷◌, ◌++◌, map, length, get_or, take, arith, Some, Vec, Global, String, inl, inr}
+use Rattle.std.specs.Prelude.{◌↔◌, ◌⊎◌, IsTrue, not, slice_get}
+use Rattle.std.proofs.Common.{Bool, true, false, ◌≡◌, ◌∙◌, ap, sym, subst, refl, ℕ, suc, ◌+◌, ◌<◌, ◌≤◌, cond, eqb-true, eq-eqb, List, [], ◌∷◌, ◌++◌, map, length, get_or, take, arith, append-nil, Some, None, Vec, Global, String, inl, inr}
 use Rattle.std.specs.List.{Contains}
 use Rattle.std.specs.List.Sorted.{IsStrictlyIncreasing}
 use Rattle.std.specs.Cmp.{unsigned_tied}
@@ -12,7 +12,7 @@ use Rattle.std.specs.List.{list_any}
 use Rattle.std.proofs.lemmas.Bool.{cases_Bool, cases_lt, cond-true, cond-false, false≢true}
 use Rattle.std.proofs.lemmas.List.{get_or-take, get_or_default, length-take-le, take_more, take_all}
 use Rattle.std.proofs.lemmas.List.Kept.{AllPairs-from_increasing}
-use Rattle.std.proofs.lemmas.List.Elements.{Contains-append_left, Contains-get_or, Contains-push, Contains-push_cases}
+use Rattle.std.proofs.lemmas.List.Elements.{Contains-append_left, Contains-append_right, Contains-get_or, Contains-push, Contains-push_cases}
 use Rattle.jiff_core.specs.declared.civil.datetime.DateTime.{DateTime}
 use Rattle.cert_graph.specs.Entries.{IsAt}
 use Rattle.cert_model.specs.Fields.{Certificate}
@@ -30,19 +30,23 @@ use Rattle.cert_reasons.specs.Links.{HasLinkReason}
 use Rattle.cert_reasons.proofs.Marks.{there_at}
 use Rattle.certpath_why.specs.Against.{IsLineOf}
 use Rattle.certpath_why.specs.Classes.{number_at}
+use Rattle.certpath_why.specs.Cuts.{CutsTo, IsCutOf}
 use Rattle.certpath_why.specs.Kinds.{AddsTails, lines_of}
-use Rattle.certpath_why.specs.Revoked.{AreRowLines, AreMet, IsHeldIn, Signs, SignsFirst}
+use Rattle.certpath_why.specs.Lines.{link_lines}
+use Rattle.certpath_why.specs.Revoked.{AreRowLines, AreMet, HaveOneNumber, IsFirstTail, IsHeldIn, Signs, SignsFirst}
 use Rattle.certpath_why.specs.RevokingRows.{ArePlacesOf}
-use Rattle.certpath_why.specs.Signers.{AreSignedFirsts, IsSignedBy, issuer_name}
+use Rattle.certpath_why.specs.Signers.{AreOfIssuer, AreSignedFirsts, IsSignedBy, SignsAny, issuer_name}
 use Rattle.certpath_why.specs.Why.{AreTexts, RevokesFirst, TellsGroup}
 use Rattle.certpath_why.specs.declared.classes.Classes.{Classes}
+use Rattle.certpath_why.specs.declared.cuts.Cut.{Cut}
+use Rattle.certpath_why.specs.declared.ranges.Range.{Range}
 use Rattle.certpath_why.specs.declared.revoked.Met.{Met}
 use Rattle.certpath_why.proofs.Against.{list_there, revoked_listed, signs_revoked}
-use Rattle.certpath_why.proofs.Fating.{group_as, texts_as}
+use Rattle.certpath_why.proofs.Fating.{group_as, ranges_as, texts_as}
 use Rattle.certpath_why.proofs.Firsting.{firsts_iff}
 use Rattle.certpath_why.proofs.Ranging.{sorted_below}
 use Rattle.certpath_why.proofs.Signed.{at_place, signed_row}
-use Rattle.certpath_why.proofs.Tailing.{tails_as}
+use Rattle.certpath_why.proofs.Tailing.{no_first, no_ranges, one_place, tails_as}
 use Rattle.certpath_why.proofs.Using.{signs_there}
 
 -- what is kept under the number of a row
@@ -262,3 +266,92 @@ module _ (V : List ℕ → List ℕ → Type 0) (xs : List ReadItem) (others : L
 -- nobody was met yet
 pub met_none : (V : List ℕ → List ℕ → Type 0) (xs : List ReadItem) (others : List Item) (c : Classes) (firsts name : List ℕ) (met : Met) → sorted.IsEmpty met.numbers → AreMet V xs others c firsts name met
 met_none V xs others c firsts name met empty p w is has s = absurd (none_held met.numbers empty (number_at c firsts p) has)
+
+-- ---- lists that the same certificates signed
+
+-- what lines begin with is nothing
+row_text : (front : List ℕ) (tails more : List (String Global)) → tails ≡ [] ++ more → lines_of front more ≡ lines_of front tails
+row_text front tails more is = ap (lines_of front) (sym is)
+
+-- the first of a row is below the others, and none is below it
+head_below : (f : ℕ) (rest : List ℕ) → IsStrictlyIncreasing (f ∷ rest) → (p : ℕ) → Contains rest p → f < p
+head_below f rest up p at =
+    let lt = at.1 in
+    let less : f < get_or rest at.0 p = AllPairs-from_increasing (f ∷ rest) up 0 (suc at.0) p (omega arith) (omega arith) in
+    let is = at.2 in
+    omega arith
+
+none_below : (f : ℕ) (rest : List ℕ) → IsStrictlyIncreasing (f ∷ rest) → (q : ℕ) → Contains (f ∷ rest) q → q < f → ⊥
+none_below f rest up q at lt = elim (cases_lt 0 at.0) [
+  | inl past ↦
+      let less : f < get_or (f ∷ rest) at.0 q = AllPairs-from_increasing (f ∷ rest) up 0 at.0 q past at.1 in
+      let is = at.2 in
+      omega arith
+  | inr past ↦
+      let here : at.0 ≡ 0 = omega (arith, past) in
+      let is : f ≡ q = subst (λ k. get_or (f ∷ rest) k q ≡ q) here at.2 in
+      omega arith
+]
+
+-- all of some lists have this number
+abbrev pub AllHave : Classes → List ℕ → ℕ → List ℕ → Type 0
+AllHave c firsts n lists = (p : ℕ) → Contains lists p → number_at c firsts p ≡ n
+
+pub have_none : (c : Classes) (firsts : List ℕ) (n : ℕ) (lists : List ℕ) → AllHave c firsts n (take 0 lists)
+have_none c firsts n lists p at = let lt = at.1 in absurd (omega arith)
+
+pub have_more : (c : Classes) (firsts : List ℕ) (n : ℕ) (lists : List ℕ) (k : ℕ) → k < length lists → AllHave c firsts n (take k lists) → number_at c firsts (get_or lists k 0) ≡ n → AllHave c firsts n (take (k + 1) lists)
+have_more c firsts n lists k lt h own p at = elim (Contains-push_cases (take k lists) (get_or lists k 0) p (subst (λ l. Contains l p) (take_more lists k 0 lt) at)) [
+  | inl there ↦ h p there
+  | inr e ↦ subst (λ q. number_at c firsts q ≡ n) e own
+]
+
+pub have_all : (c : Classes) (firsts : List ℕ) (n : ℕ) (lists : List ℕ) (k : ℕ) → length lists ≤ k → AllHave c firsts n (take k lists) → HaveOneNumber c firsts lists
+have_all c firsts n lists k le h p q at has =
+    let all = subst (AllHave c firsts n) (take_all k lists le) h in
+    all p at ∙ sym (all q has)
+
+pub have_empty : (c : Classes) (firsts lists : List ℕ) → None ≡ slice_get lists 0 → HaveOneNumber c firsts lists
+have_empty c firsts lists none p q at has = absurd (no_first lists none p at)
+
+pub first_none : (lists : List ℕ) (signers : Cut) (tails : List (String Global)) → None ≡ slice_get lists 0 → tails ≡ [] → IsFirstTail lists signers tails
+first_none [] signers tails none empty = empty
+first_none (p ∷ rest) signers tails none empty = cc
+
+pub first_some : (lists : List ℕ) (p : ℕ) (signers : Cut) (tails : List (String Global)) → Some p ≡ slice_get lists 0
+    → ((ranges : List Range) → CutsTo ranges signers → AddsTails (λ front text. text ≡ link_lines front (Some (RevokedBy p)) ranges) [] tails) → IsFirstTail lists signers tails
+first_some [] p signers tails some line = cc
+first_some (q ∷ rest) p signers tails some line = λ ranges cuts. subst (λ k. AddsTails (λ front text. text ≡ link_lines front (Some (RevokedBy k)) ranges) [] tails) (one_place some) (line ranges cuts)
+
+-- no text for elements that have none
+texts_nothing : (P : ℕ → List ℕ → Type 0) (ps : List ℕ) → ((p : ℕ) → Contains ps p → P p []) → AreTexts P ps []
+texts_nothing P [] none = refl
+texts_nothing P (p ∷ ps) none = ([], [], none p (Contains-append_left (p ∷ []) ps p (0, omega arith, refl)), texts_nothing P ps (λ q at. none q (Contains-append_right (p ∷ []) ps q at)), refl)
+
+module _ (V : List ℕ → List ℕ → Type 0) (xs ys : List ReadItem) (c : Classes) (firsts : List ℕ) (are : AreSignedFirsts V xs ys c firsts) (name : List ℕ) where
+  -- the first of them has the line
+  pub first_line : (row : List ℕ) (signers : Cut) (tails : List (String Global)) → IsStrictlyIncreasing row → AreOfIssuer xs name row → HaveOneNumber c firsts row → IsCutOf (SignsAny V xs (map item_of ys) row) signers → IsFirstTail row signers tails
+      → (front : List ℕ) → AreRowLines V xs (map item_of ys) row front (lines_of front tails)
+  first_line [] signers tails up of one cut is front = ap (lines_of front) is
+  first_line (f ∷ rest) signers tails up of one cut is front =
+      let row : List ℕ = f ∷ rest in
+      let others = map item_of ys in
+      let here : Contains row f = Contains-append_left (f ∷ []) rest f (0, omega arith, refl) in
+      let shares : (p q w : ℕ) → Contains row p → Contains row q → Signs V xs others p w → Signs V xs others q w = λ p q w at has s. same_signers V xs ys c firsts are name p q w (of p at) (of q has) (one p q at has) s in
+      let iff : (w : ℕ) → SignsAny V xs others row w ↔ SignsFirst V xs others row f w = λ w. (
+        λ h. ((here, shares h.0 f w h.1 here h.2), λ q lt at s. none_below f rest up q at lt),
+        λ h. (f, here, h.0.1),
+      ) in
+      let t = is cut.0 cut.2 in
+      let line = (cut.0, ranges_as cut.0 iff cut.1, t.2 front) in
+      let text = row_text front tails t.0 t.1 in
+      (
+        lines_of front tails,
+        [],
+        subst (IsLineOf front (Some (RevokedBy f)) (SignsFirst V xs others row f)) text line,
+        texts_nothing (λ p. IsLineOf front (Some (RevokedBy p)) (SignsFirst V xs others row p)) rest
+        (λ p at.
+        let there : Contains row p = Contains-append_right (f ∷ []) rest p at in
+        ([], no_ranges (SignsFirst V xs others row p) (λ w h. h.1 f (head_below f rest up p at) here (shares p f w there here h.0.1)), refl)),
+        sym (append-nil (lines_of front tails)),
+      )

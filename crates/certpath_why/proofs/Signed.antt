@@ -99,6 +99,9 @@ module _ (V : List ℕ → List ℕ → Type 0) (read others : List ReadItem) (c
   pub signed_number : (v : ℕ) → v < length read → v < length c.numbers.items
   signed_number v lt = let all = many in let count = are.classes_are.count in omega arith
 
+  number_signed : (v : ℕ) → v < length c.numbers.items → v < length read
+  number_signed v lt = let all = many in let count = are.classes_are.count in omega arith
+
   pub signed_row : (v : ℕ) → v < length read → get_or c.numbers.items v 0 < length h.rows.items
   signed_row v lt =
       let all = many in
@@ -182,3 +185,6 @@ signed_first V read others c firsts are v lt =
     let row = signed_row V read others c are.holders are.signed_are v lt in
     let count = are.firsts_are.count in
     omega arith
+
+pub first_below : (V : List ℕ → List ℕ → Type 0) (read others : List ReadItem) (c : Classes) (firsts : List ℕ) → AreSignedFirsts V read others c firsts → (v : ℕ) → v < length c.numbers.items → get_or c.numbers.items v 0 < length firsts
+first_below V read others c firsts are v lt = signed_first V read others c firsts are v (number_signed V read others c are.holders are.signed_are v lt)

@@ -35,7 +35,7 @@ first_mapped e = cc
 rest_mapped : {x y : List ℕ} {xs ys : List (List ℕ)} → x ∷ xs ≡ y ∷ ys → xs ≡ ys
 rest_mapped e = cc
 
-one_place : {a b : ℕ} → Some a ≡ Some b → a ≡ b
+pub one_place : {a b : ℕ} → Some a ≡ Some b → a ≡ b
 one_place e = cc
 
 -- ---- ends of lines

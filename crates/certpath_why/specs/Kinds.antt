@@ -1,5 +1,5 @@
 -- What the lines of links depend on, and the lines themselves. Contracts of private functions cite it.
-use Rattle.std.specs.Prelude.{◌≡◌, ℕ, List, [], ◌∷◌, ◌++◌, map, option_map, Option, Some, None, Vec, String, string_bytes}
+use Rattle.std.specs.Prelude.{◌≡◌, ℕ, List, [], ◌∷◌, ◌++◌, map, option_map, slice_index_or, Option, Some, None, Vec, String, string_bytes}
 use Rattle.std.specs.List.{flat_map}
 use Rattle.std.specs.Ordering.{nat_cmp}
 use Rattle.std.specs.declared.cmp.Ordering.{Ordering}
@@ -74,9 +74,23 @@ pub record IsKind (xs : List ReadItem) (others : List Item) (moment : DateTime) 
 abbrev pub IsItemKind : {V : Type 0} → Question V → ℕ → CertificateItem → List ℕ → Type 0
 IsItemKind question p x kind = IsKind question.found.now.items.now (items_in question) question.policy.now.moment question.signers.now.classes question.revoking.now.rows.items question.signers.now.issuer_firsts.items (named_by x) p x kind
 
--- the kind of a certificate among items, whatever key identifier it names
+-- Likewise for what depends on who signed the lists alone, whatever key identifier the certificate names.
+pub record IsGroup (xs : List ReadItem) (others : List Item) (moment : DateTime) (classes : Classes) (rows : List (Vec ℕ Global)) (shared firsts : List ℕ) (p : ℕ) (x : CertificateItem) (kind : List ℕ) : Type 0 where
+  pub first : ℕ
+  pub first_is : HasSubject others x.issuer.now first
+  pub row : ℕ
+  pub row_is : IsRowOf xs moment rows x row
+  pub kind_is : kind ≡ kind_numbers first (number_at classes firsts p) (slice_index_or shared row 0) None
+
+-- the group of a certificate among items
 abbrev pub IsGroupKind : {V : Type 0} → Question V → ℕ → CertificateItem → List ℕ → Type 0
-IsGroupKind question p x kind = IsKind question.found.now.items.now (items_in question) question.policy.now.moment question.signers.now.classes question.revoking.now.rows.items question.signers.now.issuer_firsts.items None p x kind
+IsGroupKind question p x kind =
+    IsGroup question.found.now.items.now (items_in question) question.policy.now.moment question.signers.now.classes question.revoking.now.rows.items question.shared.now.issuers.items question.signers.now.issuer_firsts.items p x kind
+
+-- that by its links to anchors
+abbrev pub IsRootGroup : {V : Type 0} → Question V → ℕ → CertificateItem → List ℕ → Type 0
+IsRootGroup question p x kind =
+    IsGroup question.found.now.items.now (anchors_in question) question.policy.now.moment question.signers.now.classes question.revoking.now.rows.items question.shared.now.roots.items question.signers.now.root_firsts.items p x kind
 
 -- of an anchor the key identifier doesn't count
 abbrev pub IsAnchorKind : {V : Type 0} → Question V → ℕ → CertificateItem → List ℕ → Type 0

@@ -36,3 +36,4 @@ pub mod Issuing
 pub mod Revoked
 pub mod RevokingRows
 pub mod SerialRows
+pub mod Sharing

@@ -8,6 +8,7 @@ use Rattle.cert_reasons.specs.declared.linking.Linking.{Linking}
 use Rattle.certpath_why.specs.ByIssuer.{AreByIssuer}
 use Rattle.certpath_why.specs.Named.{AreNamed}
 use Rattle.certpath_why.specs.RevokingRows.{AreRevoking, AreRevokersOf, IsRowOf}
+use Rattle.certpath_why.specs.Sharing.{AreShared}
 use Rattle.certpath_why.specs.Signers.{AreSignedBy, AreSignedFirsts}
 use Rattle.certpath_why.specs.declared.question.Question.{Question}
 use Rattle.certpath_why.specs.declared.revoking.Revokers.{Revokers}
@@ -50,9 +51,11 @@ AreRevokers question x r = AreRevokersOf question.found.now.items.now question.p
 abbrev pub IsNamed : {V : Type 0} → Question V → Type 0
 IsNamed question = AreNamed question.found.now question.named.now
 
--- the signers of each item are those by what vouches
+-- the signers of each item are those by what vouches, and rows of lists share numbers by them
 pub record IsSigned {V : Type 0} (vouch : Ghosts V) (question : Question V) : Type 0 where
   pub issuers : AreSignedBy (vouch.vouches_for question.vouch.now).Vouches question.found.now.items.now question.found.now.items.now question.signers.now.classes question.signers.now.issuers
   pub roots : AreSignedBy (vouch.vouches_for question.vouch.now).Vouches question.found.now.items.now question.found.now.anchors.now question.signers.now.classes question.signers.now.roots
   pub issuer_firsts : AreSignedFirsts (vouch.vouches_for question.vouch.now).Vouches question.found.now.items.now question.found.now.items.now question.signers.now.classes question.signers.now.issuer_firsts.items
   pub root_firsts : AreSignedFirsts (vouch.vouches_for question.vouch.now).Vouches question.found.now.items.now question.found.now.anchors.now question.signers.now.classes question.signers.now.root_firsts.items
+  pub issuer_shared : AreShared question.signers.now.classes question.signers.now.issuer_firsts.items question.revoking.now.rows.items question.shared.now.issuers.items
+  pub root_shared : AreShared question.signers.now.classes question.signers.now.root_firsts.items question.revoking.now.rows.items question.shared.now.roots.items

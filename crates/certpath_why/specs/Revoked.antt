@@ -1,5 +1,5 @@
 -- Lines of the lists that revoke, kept by the numbers of their rows. Contracts of private functions cite it.
-use Rattle.std.specs.Prelude.{◌≡◌, ◌⊎◌, ◌<◌, ◌↔◌, ℕ, IsTrue, List, Contains, Some, String, Vec, slice_index_or}
+use Rattle.std.specs.Prelude.{◌≡◌, ◌⊎◌, ◌<◌, ◌↔◌, ℕ, IsTrue, List, [], ◌∷◌, Contains, Some, String, Vec, slice_index_or}
 use Rattle.std.specs.Ordering.{nat_cmp}
 use Rattle.std.specs.BTreeMap as mapped
 use Rattle.std.specs.BTreeMap.{BTreeMap}
@@ -13,10 +13,14 @@ use Rattle.cert_judge.specs.declared.items.ReadItem.{ReadItem}
 use Rattle.cert_reasons.specs.declared.links.Unlinked.TheVariants.{RevokedBy}
 use Rattle.certpath_why.specs.Against.{IsLineOf}
 use Rattle.certpath_why.specs.Classes.{number_at}
-use Rattle.certpath_why.specs.Kinds.{lines_of}
+use Rattle.certpath_why.specs.Cuts.{CutsTo}
+use Rattle.certpath_why.specs.Kinds.{AddsTails, lines_of}
+use Rattle.certpath_why.specs.Lines.{link_lines}
 use Rattle.certpath_why.specs.Signers.{IsSignedBy, issuer_name}
 use Rattle.certpath_why.specs.Why.{AreTexts}
 use Rattle.certpath_why.specs.declared.classes.Classes.{Classes}
+use Rattle.certpath_why.specs.declared.cuts.Cut.{Cut}
+use Rattle.certpath_why.specs.declared.ranges.Range.{Range}
 use Rattle.certpath_why.specs.declared.revoked.Met.{Met}
 
 -- the list at a position was signed by the certificate at another
@@ -30,6 +34,15 @@ SignsFirst V items others row p w = (Contains row p × Signs V items others p w)
 -- the lines of the lists of a row
 abbrev pub AreRowLines : (List ℕ → List ℕ → Type 0) → List ReadItem → List Item → List ℕ → List ℕ → List ℕ → Type 0
 AreRowLines V items others row front text = AreTexts (λ p. IsLineOf front (Some (RevokedBy p)) (SignsFirst V items others row p)) row text
+
+-- the same certificates signed all of some lists, by their numbers
+abbrev pub HaveOneNumber : Classes → List ℕ → List ℕ → Type 0
+HaveOneNumber classes firsts lists = (p q : ℕ) → Contains lists p → Contains lists q → number_at classes firsts p ≡ number_at classes firsts q
+
+-- the end of the line of the first of some lists, of these signers
+abbrev pub IsFirstTail : List ℕ → Cut → List (String Global) → Type 0
+IsFirstTail [] signers tails = tails ≡ []
+IsFirstTail (p ∷ rest) signers tails = (ranges : List Range) → CutsTo ranges signers → AddsTails (λ front text. text ≡ link_lines front (Some (RevokedBy p)) ranges) [] tails
 
 -- what is under a number are the ends of the lines of its row
 abbrev pub AreRowTailsKept : (List ℕ → List ℕ → Type 0) → List ReadItem → List Item → List (Vec ℕ Global) → BTreeMap ℕ (Vec (String Global) Global) → Type 0

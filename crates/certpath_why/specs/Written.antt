@@ -2,7 +2,7 @@
 use Rattle.std.specs.Prelude.{◌≡◌, []}
 use Rattle.cert_judge.specs.declared.vouch.Vouch.{Ghosts}
 use Rattle.certpath_why.specs.Groups.{AreDifferingKept}
-use Rattle.certpath_why.specs.Issuing.{AreIssuedKept}
+use Rattle.certpath_why.specs.Issuing.{AreIssuedKept, AreRootsKept}
 use Rattle.certpath_why.specs.Kinds.{AreAnchorTailsKept, AreItemTailsKept}
 use Rattle.certpath_why.specs.Question.{anchors_in, items_in, rules_in}
 use Rattle.certpath_why.specs.Revoked.{AreRowTailsKept}
@@ -33,6 +33,7 @@ pub record AreItemsWritten {V : Type 0} (vouch : Ghosts V) (question : Question 
 
 pub record AreAnchorsWritten {V : Type 0} (vouch : Ghosts V) (question : Question V) (kept : Kept) : Type 0 where
   pub tails : AreAnchorTailsKept vouch question kept.tails
+  pub issued : AreRootsKept vouch question kept.issued
   pub used : AreUsedKept (rules_in vouch question) (items_in question) (anchors_in question) kept.used
   pub revoked : AreRowTailsKept (vouch.vouches_for question.vouch.now).Vouches question.found.now.items.now (anchors_in question) question.revoking.now.rows.items kept.revoked
 

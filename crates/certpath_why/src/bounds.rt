@@ -10,7 +10,7 @@ ghost use Rattle.cert_judge.specs.declared.items.ReadItem.TheVariants.{Certifica
 ghost use Rattle.cert_reasons.specs.Linking.{HasItsLists};
 ghost use Rattle.certpath_why.specs.Bounds.{reach_by, IsHeldBack, IsBound};
 ghost use Rattle.certpath_why.specs.Found.{AreMarked, IsFound, IsMarked};
-ghost use Rattle.certpath_why.specs.Held.{search_rules, AreBareMarked, AreGroupsKept, AreSearchFirsts, HoldsBack, IsHeld, MayHoldBack};
+ghost use Rattle.certpath_why.specs.Held.{search_rules, AreBareMarked, AreGroupsKept, AreSearchFirsts, AreSearchShared, HoldsBack, IsHeld, MayHoldBack};
 ghost use Rattle.certpath_why.specs.Lines.{reach_lines};
 ghost use Rattle.certpath_why.specs.Named.{AreGathered};
 ghost use Rattle.certpath_why.specs.Question.{items_in, link_items, link_rules, IsListed, IsRevoking, IsRow, IsSigned};
@@ -23,6 +23,7 @@ use crate::kinds::{held_group, held_kind};
 use crate::marks::{mark_all, marked_but, no_marks};
 use crate::named::Issuers;
 use crate::question::Question;
+use crate::sharing::shared_by;
 use crate::signers::{firsts_by, issuers_at};
 use cert_graph::{Answer, Reach};
 use cert_judge::{CertificateItem, Vouch};
@@ -145,6 +146,8 @@ pub(crate) struct Searched<'s, S> {
     pub(crate) vouch: &'s S,
     /// For each number of octets the first for which the keys of the same certificates vouch in it.
     pub(crate) firsts: &'s [usize],
+    /// The numbers of the rows of lists by who signed these, by those numbers.
+    pub(crate) shared: &'s [usize],
     /// What it found.
     pub(crate) answer: &'s Answer,
 }
@@ -180,14 +183,13 @@ fn holding_of<'a, V: Vouch, S: Vouch>(
 pub(crate) struct Held<'a> {
     /// The kinds of those that are done.
     pub(crate) done: BTreeSet<Vec<usize>>,
-    /// The issuers whose path length may hold a certificate back, by its kind but for the key
-    /// identifier that it names. Those without a key identifier are marked.
+    /// The issuers whose path length may hold a certificate back, by its group, whatever key
+    /// identifier it names. Those without a key identifier are marked.
     pub(crate) groups: BTreeMap<Vec<usize>, Issuers<'a>>,
 }
 
 /// Marks the issuers from which a path length holds a certificate back, if that counts and leads
-/// nowhere. They are brought together once for all certificates whose kinds differ in the key
-/// identifier alone; then it costs a step for each that is marked.
+/// nowhere. They are brought together once for all certificates of a group; then it costs a step for each that is marked.
 fn mark_among<'a, V: Vouch, S: Vouch>(
     marks: &mut Vec<bool>,
     groups: &mut BTreeMap<Vec<usize>, Issuers<'a>>,
@@ -199,18 +201,19 @@ fn mark_among<'a, V: Vouch, S: Vouch>(
     row: usize,
     first: usize,
 ) -> Result<(), AllocError>
-    requires groups { AreGroupsKept question.now (S.vouches_for searched.now.vouch.now) searched.now.firsts.now (reach_by searched.now.answer.now) groups.old }
+    requires groups { AreGroupsKept question.now (S.vouches_for searched.now.vouch.now) searched.now.firsts.now searched.now.shared.now (reach_by searched.now.answer.now) groups.old }
     requires bare { AreBareMarked groups.old marks.old.items }
     requires signed { IsSigned V.Vouch question.now }
     requires less { (key item : List ℕ) → (S.vouches_for searched.now.vouch.now).Vouches key item → (V.vouches_for question.now.vouch.now).Vouches key item }
     requires firsts { AreSearchFirsts question.now (S.vouches_for searched.now.vouch.now) searched.now.firsts.now }
+    requires shared { AreSearchShared question.now searched.now.firsts.now searched.now.shared.now }
     requires at { IsAt question.now.found.now.items.now place (λ x. x ≡ certificate_read certificate.now) }
     requires known { IsFound question.now.found.now }
     requires listed { IsListed question.now }
     requires row { IsRow question.now certificate.now row }
     requires first { HasSubject (items_in question.now) certificate.now.issuer.now first }
     requires count { length marks.now.items ≡ length question.now.found.now.items.now }
-    ensures groups { OnOk result (AreGroupsKept question.now (S.vouches_for searched.now.vouch.now) searched.now.firsts.now (reach_by searched.now.answer.now) groups.new) }
+    ensures groups { OnOk result (AreGroupsKept question.now (S.vouches_for searched.now.vouch.now) searched.now.firsts.now searched.now.shared.now (reach_by searched.now.answer.now) groups.new) }
     ensures bare { OnOk result (AreBareMarked groups.new marks.new.items) }
     ensures marks { OnOk result (AreMarked (HoldsBack (search_rules question.now (S.vouches_for searched.now.vouch.now)) (items_in question.now) (reach_by searched.now.answer.now) certificate.now) marks.old.items marks.new.items) }
 {
@@ -218,6 +221,7 @@ fn mark_among<'a, V: Vouch, S: Vouch>(
         alloc,
         question,
         searched.firsts,
+        searched.shared,
         place,
         certificate,
         row,
@@ -254,9 +258,10 @@ fn mark_from<'a, V: Vouch, S: Vouch>(
     requires less { (key item : List ℕ) → (S.vouches_for searched.now.vouch.now).Vouches key item → (V.vouches_for question.now.vouch.now).Vouches key item }
     requires certificate { IsCertificateAt (items_in question.now) place }
     requires firsts { AreSearchFirsts question.now (S.vouches_for searched.now.vouch.now) searched.now.firsts.now }
-    requires held { IsHeld question.now (S.vouches_for searched.now.vouch.now) searched.now.firsts.now (reach_by searched.now.answer.now) held.old marks.old.items }
+    requires shared { AreSearchShared question.now searched.now.firsts.now searched.now.shared.now }
+    requires held { IsHeld question.now (S.vouches_for searched.now.vouch.now) searched.now.firsts.now searched.now.shared.now (reach_by searched.now.answer.now) held.old marks.old.items }
     requires count { length marks.now.items ≡ length question.now.found.now.items.now }
-    ensures held { OnOk result (IsHeld question.now (S.vouches_for searched.now.vouch.now) searched.now.firsts.now (reach_by searched.now.answer.now) held.new marks.new.items) }
+    ensures held { OnOk result (IsHeld question.now (S.vouches_for searched.now.vouch.now) searched.now.firsts.now searched.now.shared.now (reach_by searched.now.answer.now) held.new marks.new.items) }
     ensures marks { OnOk result (AreMarked (IsHeldBack (rules_by question.now.policy.now.moment question.now.policy.now.demand_lists (S.vouches_for searched.now.vouch.now)) (items_in question.now) (reach_by searched.now.answer.now) place) marks.old.items marks.new.items) }
 {
     let Some(certificate) = certificate_at(question.found.items, place) else {
@@ -324,9 +329,12 @@ fn bound_marks<V: Vouch, S: Vouch>(
         return Ok(marks);
     }
     let firsts = firsts_by(alloc, question, search)?;
+    let classes = &question.signers.classes;
+    let shared = shared_by(alloc, classes, &firsts, &question.revoking.rows)?;
     let searched = Searched {
         vouch: search,
         firsts: &firsts,
+        shared: &shared,
         answer,
     };
     let mut held = Held {

@@ -16,8 +16,8 @@ ghost use Rattle.certpath_why.specs.Appended.{Appends};
 ghost use Rattle.certpath_why.specs.Issuing.{IsIssued};
 ghost use Rattle.certpath_why.specs.Kinds.{AreAnchorTails, AreItemTails};
 ghost use Rattle.certpath_why.specs.RevokingRows.{HasNumber};
+ghost use Rattle.certpath_why.specs.Sharing.{HasRevoked};
 ghost use Rattle.certpath_why.specs.Sides.{IsSide};
-ghost use Rattle.certpath_why.specs.Used.{AreUsedKept};
 ghost use Rattle.certpath_why.specs.Written.{AreAnchorsWritten, AreItemsWritten, AreWritten};
 
 use crate::cuts::Cut;
@@ -25,7 +25,7 @@ use crate::demanded::push_unmet;
 use crate::differing::add_differing;
 use crate::found::{Found, certificate_at};
 use crate::issuing::{Issued, linked_among};
-use crate::kinds::{anchor_kind, group_kind, item_kind};
+use crate::kinds::{anchor_kind, group_kind, item_kind, root_group};
 use crate::lines::{push_all_no_issuer, push_all_unusable, push_missing, push_subject};
 use crate::links::{Front, Groups, add_cut, push_tails};
 use crate::named::Issuers;
@@ -33,13 +33,12 @@ use crate::question::Question;
 use crate::revoked::add_revoked;
 use crate::revoking::Revokers;
 use crate::side::Side;
-use crate::used::{Used, add_lacking};
+use crate::used::add_lacking;
 use crate::written::{Kept, Written};
 use asn1_core::OutOfMemory;
 use cert_judge::{CertificateItem, Vouch};
 use cert_reasons::{Unlinked, why_no_issuer, why_unusable};
 use std::alloc::{AllocError, Global};
-use std::collections::BTreeMap;
 
 /// Appends why a certificate is not usable.
 fn tell_unusable<V: Vouch>(
@@ -89,13 +88,19 @@ fn groups_from<'a, V: Vouch>(
     certificate: &CertificateItem<'a>,
     issued: &Issued<'a>,
 ) -> Result<Groups, AllocError>
-    requires { IsIssued (rules_in V.Vouch question.now) (items_in question.now) question.now.found.now.items.now certificate.now issued.now }
-    ensures { IfOk result (AreGroups (IsLinkedTo (rules_in V.Vouch question.now) (items_in question.now) (certificate_item certificate.now))
+    requires { IsIssued (rules_in V.Vouch question.now) question.now.policy.now.moment question.now.found.now.items.now question.now.found.now.items.now certificate.now issued.now }
+    ensures groups { IfOk result (AreGroups (IsLinkedTo (rules_in V.Vouch question.now) (items_in question.now) (certificate_item certificate.now))
         (FailsTo (rules_in V.Vouch question.now) (items_in question.now) (certificate_item certificate.now) (certificate_of certificate.now))) }
+    ensures revoked { IfOk result (λ g. HasRevoked (rules_in V.Vouch question.now).Vouches question.now.found.now.items.now question.now.policy.now.moment (items_in question.now) certificate.now g.revoked) }
 {
     let linked = linked_among(alloc, certificate, &issued.under)?;
     let unvouched = issued.unvouched.copied(alloc)?;
-    Ok(Groups { linked, unvouched })
+    let revoked = issued.revoked.copied(alloc)?;
+    Ok(Groups {
+        linked,
+        unvouched,
+        revoked,
+    })
 }
 
 /// The links to the certificates of the issuer's name. What it has in common with others is worked
@@ -120,6 +125,7 @@ fn groups_of<'a, V: Vouch>(
     ensures kept { OnOk result (AreItemsWritten V.Vouch question.now kept.new) }
     ensures groups { IfOk result (AreGroups (IsLinkedTo (rules_in V.Vouch question.now) (items_in question.now) (certificate_item certificate.now))
         (FailsTo (rules_in V.Vouch question.now) (items_in question.now) (certificate_item certificate.now) (certificate_of certificate.now))) }
+    ensures revoked { IfOk result (λ g. HasRevoked (rules_in V.Vouch question.now).Vouches question.now.found.now.items.now question.now.policy.now.moment (items_in question.now) certificate.now g.revoked) }
 {
     let row = revokers.number;
     let kind = group_kind(alloc, question, place, certificate, row, side.first)?;
@@ -173,7 +179,8 @@ fn tails_among<'a, V: Vouch>(
         certificate,
     )?;
     let revoked = &mut kept.revoked;
-    add_revoked(&mut tails, alloc, revoked, question, side, revokers)?;
+    let all = &groups.revoked;
+    add_revoked(&mut tails, alloc, revoked, question, side, revokers, all)?;
     add_lacking(&mut tails, alloc, &mut kept.used, question, side)?;
     Ok(tails)
 }
@@ -276,39 +283,49 @@ fn tell_links<'a, V: Vouch>(
     Ok(())
 }
 
-/// The links to the anchors of the issuer's name, of which the key identifier doesn't count.
+/// The links to the anchors of the issuer's name, of which the key identifier doesn't count. What it
+/// has in common with others is worked out once.
 fn root_groups_of<'a, V: Vouch>(
     alloc: Global,
-    used: &mut BTreeMap<usize, Used>,
+    kept: &mut Kept<'a>,
     question: &Question<'_, 'a, V>,
     side: &Side<'_, 'a>,
     place: usize,
     certificate: &CertificateItem<'a>,
     revokers: Revokers<'_>,
 ) -> Result<Groups, AllocError>
-    requires used { AreUsedKept (rules_in V.Vouch question.now) (items_in question.now) (anchors_in question.now) used.old }
+    requires kept { AreAnchorsWritten V.Vouch question.now kept.old }
     requires known { IsFound question.now.found.now }
+    requires signed { IsSigned V.Vouch question.now }
     requires side { IsSide V.Vouch question.now side.now }
     requires others { side.now.others.now ≡ question.now.found.now.anchors.now }
     requires name { side.now.name.now ≡ certificate.now.issuer.now }
     requires at { IsAt question.now.found.now.items.now place (λ x. x ≡ certificate_read certificate.now) }
     requires revokers { AreRevokers question.now certificate.now revokers }
-    ensures used { OnOk result (AreUsedKept (rules_in V.Vouch question.now) (items_in question.now) (anchors_in question.now) used.new) }
+    ensures kept { OnOk result (AreAnchorsWritten V.Vouch question.now kept.new) }
     ensures groups { IfOk result (AreGroups (IsLinkedToAnchor (rules_in V.Vouch question.now) (items_in question.now) (anchors_in question.now) (certificate_item certificate.now))
         (FailsToAnchor (rules_in V.Vouch question.now) (items_in question.now) (anchors_in question.now) (certificate_item certificate.now) (certificate_of certificate.now))) }
+    ensures revoked { IfOk result (λ g. HasRevoked (rules_in V.Vouch question.now).Vouches question.now.found.now.items.now question.now.policy.now.moment (anchors_in question.now) certificate.now g.revoked) }
 {
+    let row = revokers.number;
+    let kind = root_group(alloc, question, place, certificate, row, side.first)?;
+    if let Some(issued) = kept.issued.get(&kind) {
+        let groups = issued.to_all(alloc)?;
+        return Ok(groups);
+    }
+    let used = &mut kept.used;
     let lists = revokers.lists;
     let issued = Issued::new(alloc, used, question, side, place, certificate, lists)?;
-    let linked = Cut::of(alloc, &issued.under.all)?;
-    let unvouched = issued.unvouched.copied(alloc)?;
-    Ok(Groups { linked, unvouched })
+    let groups = issued.to_all(alloc)?;
+    kept.issued.insert(kind, issued)?;
+    Ok(groups)
 }
 
 /// The ends of the lines of the links to all anchors of the issuer's name, which are brought
 /// together.
 fn root_tails_among<'a, V: Vouch>(
     alloc: Global,
-    kept: &mut Kept<'_>,
+    kept: &mut Kept<'a>,
     question: &Question<'_, 'a, V>,
     side: &Side<'_, 'a>,
     place: usize,
@@ -326,14 +343,14 @@ fn root_tails_among<'a, V: Vouch>(
     ensures kept { OnOk result (AreAnchorsWritten V.Vouch question.now kept.new) }
     ensures tails { IfOk result (λ tails. AreAnchorTails V.Vouch question.now certificate.now tails.items) }
 {
-    let used = &mut kept.used;
-    let groups = root_groups_of(alloc, used, question, side, place, certificate, revokers)?;
+    let groups = root_groups_of(alloc, kept, question, side, place, certificate, revokers)?;
     let mut tails = Vec::new(alloc);
     add_cut(&mut tails, alloc, None, &groups.linked)?;
     let unvouched = Some(Unlinked::NotVouched);
     add_cut(&mut tails, alloc, unvouched, &groups.unvouched)?;
     let revoked = &mut kept.revoked;
-    add_revoked(&mut tails, alloc, revoked, question, side, revokers)?;
+    let all = &groups.revoked;
+    add_revoked(&mut tails, alloc, revoked, question, side, revokers, all)?;
     add_lacking(&mut tails, alloc, &mut kept.used, question, side)?;
     Ok(tails)
 }

@@ -1,12 +1,12 @@
 //! Under whose names and keys certificates were issued, but for key identifiers: worked out once for
-//! those that the same keys vouch for and the same lists revoke (RFC 5280, 6.1.3, a).
+//! those that the same keys vouch for and lists of the same signers revoke (RFC 5280, 6.1.3, a).
 
 ghost use Rattle.std.specs.Prelude.{◌≡◌, ◌↔◌, ◌⊎◌, ℕ, List, [], Contains, IfOk, IsTrue, OnOk, map};
 ghost use Rattle.cert_graph.specs.Entries.{IsAt};
 ghost use Rattle.cert_judge.specs.Items.{item_of};
 ghost use Rattle.cert_judge.specs.declared.items.ReadItem.{ReadItem};
 ghost use Rattle.cert_judge.specs.declared.items.ReadItem.TheVariants.{Certificate as certificate_read};
-ghost use Rattle.certpath_why.specs.Cuts.{IsCutOf};
+ghost use Rattle.certpath_why.specs.Cuts.{CutsTo, IsCutOf};
 ghost use Rattle.certpath_why.specs.Found.{IsFound};
 ghost use Rattle.certpath_why.specs.Issuing.{AgreesAt, IsIssued};
 ghost use Rattle.certpath_why.specs.Named.{AreGathered};
@@ -15,8 +15,10 @@ ghost use Rattle.certpath_why.specs.Reached.{IsCertificateAt};
 ghost use Rattle.certpath_why.specs.RevokingRows.{ArePlacesOf};
 ghost use Rattle.certpath_why.specs.Sides.{others_of, IsSide};
 ghost use Rattle.certpath_why.specs.Used.{AreUsedKept};
+ghost use Rattle.certpath_why.specs.declared.ranges.Range.{Range};
 
 use crate::cuts::{Cut, cut_of, ranges_but};
+use crate::links::Groups;
 use crate::named::Issuers;
 use crate::positions::put_in_order;
 use crate::question::Question;
@@ -29,11 +31,14 @@ use cert_judge::{CertificateItem, Vouch};
 use std::alloc::{AllocError, Global};
 use std::collections::BTreeMap;
 
-/// What certificates have in common that the same keys vouch for and the same lists revoke.
+/// What certificates have in common that the same keys vouch for, and lists of the same signers
+/// revoke.
 #[derive(Drop)]
 pub(crate) struct Issued<'a> {
     /// Those of the issuer's name whose keys nobody says to have signed them.
     pub(crate) unvouched: Cut,
+    /// Those of it that signed one of the lists that revoke.
+    pub(crate) revoked: Cut,
     /// Those under whose names and keys they were issued.
     pub(crate) under: Issuers<'a>,
 }
@@ -57,7 +62,7 @@ impl<'a> Issued<'a> {
         requires at { IsAt question.now.found.now.items.now place (λ x. x ≡ certificate_read certificate.now) }
         requires revoking { ArePlacesOf question.now.found.now.items.now question.now.policy.now.moment certificate.now revoking.now }
         ensures used { OnOk result (AreUsedKept (rules_in V.Vouch question.now) (items_in question.now) (others_of side.now) used.new) }
-        ensures issued { IfOk result (IsIssued (rules_in V.Vouch question.now) (items_in question.now) side.now.others.now certificate.now) }
+        ensures issued { IfOk result (IsIssued (rules_in V.Vouch question.now) question.now.policy.now.moment question.now.found.now.items.now side.now.others.now certificate.now) }
     {
         let signers = signers_at(alloc, question, side, place)?;
         let revokers = signers_of_any(alloc, question, side, revoking)?;
@@ -66,7 +71,28 @@ impl<'a> Issued<'a> {
         let issuers = listed_among(alloc, used, question, side, &left)?;
         let under = Issuers::new(alloc, side.others, &issuers)?;
         let unvouched = ranges_but(alloc, &side.named.all, &signers)?;
-        Ok(Issued { unvouched, under })
+        let revoked = Cut::of(alloc, &against)?;
+        Ok(Issued {
+            unvouched,
+            revoked,
+            under,
+        })
+    }
+
+    /// The links to all of them, whatever their key identifiers are.
+    pub(crate) fn to_all(&self, alloc: Global) -> Result<Groups, AllocError>
+        ensures linked { IfOk result (λ g. CutsTo self.now.under.all.items g.linked) }
+        ensures unvouched { IfOk result (λ g. (rs : List Range) → CutsTo rs self.now.unvouched → CutsTo rs g.unvouched) }
+        ensures revoked { IfOk result (λ g. (rs : List Range) → CutsTo rs self.now.revoked → CutsTo rs g.revoked) }
+    {
+        let linked = Cut::of(alloc, &self.under.all)?;
+        let unvouched = self.unvouched.copied(alloc)?;
+        let revoked = self.revoked.copied(alloc)?;
+        Ok(Groups {
+            linked,
+            unvouched,
+            revoked,
+        })
     }
 }
 

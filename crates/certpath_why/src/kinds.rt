@@ -1,15 +1,17 @@
 //! Kinds of certificates: those of one kind have equal lines of links, but for their own positions.
 //! A kind is a row of numbers that has all that the lines depend on: the issuer's name, by a
 //! position of it, the holders whose keys vouch for the certificate and the lists in force that have
-//! its serial number, each by a number of their row, and the key identifier that it names.
+//! its serial number, each by a number of their row, and the key identifier that it names. A group
+//! has what the links alone depend on: who signed those lists, in place of which they are.
 
 ghost use Rattle.std.specs.Prelude.{◌≡◌, ◌++◌, ◌<◌, None, option_map, length, slice_index_or, IfOk, OnOk};
 ghost use Rattle.certpath_why.specs.Held.{IsSearchGroup, IsSearchKind};
-ghost use Rattle.certpath_why.specs.Kinds.{IsAnchorKind, IsGroupKind, IsItemKind, kind_numbers, named_by, named_numbers};
+ghost use Rattle.certpath_why.specs.Kinds.{IsAnchorKind, IsGroupKind, IsItemKind, IsRootGroup, kind_numbers, named_by, named_numbers};
 ghost use Rattle.certpath_why.specs.Question.{anchors_in, items_in, IsRow, IsSigned};
 ghost use Rattle.certpath_why.specs.Reached.{HasSubject};
 
 use crate::question::Question;
+use crate::sharing::shared_at;
 use crate::signers::{issuers_number, roots_number};
 use cert_judge::{CertificateItem, Vouch};
 use std::alloc::{AllocError, Global};
@@ -88,7 +90,7 @@ pub(crate) fn item_kind<V: Vouch>(
     Ok(kind)
 }
 
-/// The kind of the certificate at a position, by its links to certificates, whatever key identifier
+/// The group of the certificate at a position, by its links to certificates, whatever key identifier
 /// it names.
 pub(crate) fn group_kind<V: Vouch>(
     alloc: Global,
@@ -105,7 +107,29 @@ pub(crate) fn group_kind<V: Vouch>(
     ensures { IfOk result (λ kind. IsGroupKind question.now place certificate.now kind.items) }
 {
     let number = issuers_number(question, place);
-    let kind = kind_of(alloc, first, number, row, None)?;
+    let shared = shared_at(&question.shared.issuers, row);
+    let kind = kind_of(alloc, first, number, shared, None)?;
+    Ok(kind)
+}
+
+/// The group of the certificate at a position, by its links to anchors.
+pub(crate) fn root_group<V: Vouch>(
+    alloc: Global,
+    question: &Question<'_, '_, V>,
+    place: usize,
+    certificate: &CertificateItem<'_>,
+    row: usize,
+    first: usize,
+) -> Result<Vec<usize>, AllocError>
+    requires signed { IsSigned V.Vouch question.now }
+    requires row { IsRow question.now certificate.now row }
+    requires place { place < length question.now.found.now.items.now }
+    requires first { HasSubject (anchors_in question.now) certificate.now.issuer.now first }
+    ensures { IfOk result (λ kind. IsRootGroup question.now place certificate.now kind.items) }
+{
+    let number = roots_number(question, place);
+    let shared = shared_at(&question.shared.roots, row);
+    let kind = kind_of(alloc, first, number, shared, None)?;
     Ok(kind)
 }
 
@@ -153,12 +177,13 @@ pub(crate) fn held_kind<V: Vouch>(
     Ok(kind)
 }
 
-/// The kind of the certificate at a position, by its links to certificates as a search has them,
+/// The group of the certificate at a position, by its links to certificates as a search has them,
 /// whatever key identifier it names.
 pub(crate) fn held_group<V: Vouch>(
     alloc: Global,
     question: &Question<'_, '_, V>,
     firsts: &[usize],
+    shared: &[usize],
     place: usize,
     certificate: &CertificateItem<'_>,
     row: usize,
@@ -168,9 +193,11 @@ pub(crate) fn held_group<V: Vouch>(
     requires place { place < length question.now.signers.now.classes.numbers.items }
     requires number { slice_index_or question.now.signers.now.classes.numbers.items place 0 < length firsts.now }
     requires first { HasSubject (items_in question.now) certificate.now.issuer.now first }
-    ensures { IfOk result (λ kind. IsSearchGroup question.now firsts.now place certificate.now kind.items) }
+    requires shared { row < length shared.now }
+    ensures { IfOk result (λ kind. IsSearchGroup question.now firsts.now shared.now place certificate.now kind.items) }
 {
-    let shared = question.signers.classes.number_by(firsts, place);
-    let kind = kind_of(alloc, first, shared, row, None)?;
+    let signed = question.signers.classes.number_by(firsts, place);
+    let number = shared_at(shared, row);
+    let kind = kind_of(alloc, first, signed, number, None)?;
     Ok(kind)
 }

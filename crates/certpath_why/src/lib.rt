@@ -44,6 +44,7 @@ mod reached;
 mod revoked;
 mod revoking;
 mod rows;
+mod sharing;
 mod side;
 mod sifting;
 mod signers;

@@ -28,14 +28,16 @@ pub(crate) enum Front {
     Anchors(usize),
 }
 
-/// The links of one certificate to those of its issuer's name that hold, and those that nobody
-/// vouches for.
+/// The links of one certificate to those of its issuer's name that hold, those that nobody vouches
+/// for, and those against which there is a list.
 #[derive(Drop)]
 pub(crate) struct Groups {
     /// To whom it is linked.
     pub(crate) linked: Cut,
     /// Whose keys nobody says to have signed it.
     pub(crate) unvouched: Cut,
+    /// Who signed one of the lists that have its serial number.
+    pub(crate) revoked: Cut,
 }
 
 /// Appends a position, or the first and the last of several.

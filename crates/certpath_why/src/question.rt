@@ -5,6 +5,7 @@ use crate::demanded::Sought;
 use crate::found::Found;
 use crate::named::Named;
 use crate::revoking::RevokingRows;
+use crate::sharing::SharedRows;
 use crate::signers::Signers;
 use cert_judge::Policy;
 
@@ -25,6 +26,8 @@ pub(crate) struct Question<'q, 'a, V> {
     pub(crate) lists: &'q ListsByIssuer<'a>,
     /// Of the lists in force those that have the serial number of a certificate that is reached.
     pub(crate) revoking: &'q RevokingRows,
+    /// The numbers of these rows by who signed their lists.
+    pub(crate) shared: &'q SharedRows,
     /// The certificates and anchors of the names of these issuers.
     pub(crate) named: &'q Named<'a>,
     /// The moment, and whether revocation lists are demanded.

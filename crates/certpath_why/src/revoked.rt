@@ -2,20 +2,21 @@
 //! certificate for an issuer or anchor the first has the line. The lines are worked out once for
 //! each row of lists.
 
-ghost use Rattle.std.specs.Prelude.{◌≡◌, ◌↔◌, ◌⊎◌, ◌<◌, ℕ, List, Contains, IfOk, OnOk, Some, Vec, length, slice_index_or};
+ghost use Rattle.std.specs.Prelude.{◌≡◌, ◌↔◌, ◌⊎◌, ◌<◌, ℕ, List, Contains, IfOk, IsTrue, OnOk, Some, Vec, length, slice_index_or};
 ghost use Rattle.std.specs.declared.alloc.Global.{Global};
 ghost use Rattle.std.specs.List.Sorted.{IsStrictlyIncreasing};
 ghost use Rattle.cert_graph.specs.Entries.{IsAt};
 ghost use Rattle.cert_judge.specs.Items.{item_of};
 ghost use Rattle.cert_reasons.specs.declared.links.Unlinked.TheVariants.{RevokedBy};
 ghost use Rattle.certpath_why.specs.Against.{IsLineOf};
+ghost use Rattle.certpath_why.specs.Cuts.{IsCutOf};
 ghost use Rattle.certpath_why.specs.Kinds.{AddsTails, IsCopied, lines_of};
 ghost use Rattle.certpath_why.specs.Reached.{ArePositions};
-ghost use Rattle.certpath_why.specs.Revoked.{AreRowLines, AreRowTailsKept, AreMet, IsHeldIn, Signs};
+ghost use Rattle.certpath_why.specs.Revoked.{AreRowLines, AreRowTailsKept, AreMet, HaveOneNumber, IsFirstTail, IsHeldIn, Signs};
 ghost use Rattle.certpath_why.specs.Sides.{others_of, IsSide};
-ghost use Rattle.certpath_why.specs.Signers.{AreOfIssuer, issuer_name};
+ghost use Rattle.certpath_why.specs.Signers.{AreOfIssuer, SignsAny, issuer_name};
 
-use crate::cuts::cut_of;
+use crate::cuts::{Cut, cut_of};
 use crate::links::add_cut;
 use crate::question::Question;
 use crate::revoking::Revokers;
@@ -87,19 +88,61 @@ fn add_list<V: Vouch>(
     Ok(())
 }
 
-/// The ends of the lines of the lists of a row. It costs a look-up for each list and for each
-/// certificate that signed one; lists that the same ones signed count once.
+/// Whether the same certificates signed all of some lists.
+fn are_alike<V: Vouch>(question: &Question<'_, '_, V>, side: &Side<'_, '_>, lists: &[usize]) -> bool
+    requires side { IsSide V.Vouch question.now side.now }
+    requires issuer { AreOfIssuer question.now.found.now.items.now side.now.name.now lists.now }
+    ensures { IsTrue result → HaveOneNumber question.now.signers.now.classes side.now.firsts.now lists.now }
+{
+    let Some(first) = lists.first() else {
+        return true;
+    };
+    let number = signers_number(question, side, *first);
+    for list in lists {
+        if signers_number(question, side, *list) != number {
+            return false;
+        }
+    }
+    true
+}
+
+/// The end of the line of the first of some lists, given who signed them; none for no list.
+fn first_tail(alloc: Global, lists: &[usize], signers: &Cut) -> Result<Vec<String>, OutOfMemory>
+    ensures { IfOk result (λ tails. IsFirstTail lists.now signers.now tails.items) }
+{
+    let mut tails = Vec::new(alloc);
+    let Some(first) = lists.first() else {
+        return Ok(tails);
+    };
+    add_cut(
+        &mut tails,
+        alloc,
+        Some(Unlinked::RevokedBy(*first)),
+        signers,
+    )?;
+    Ok(tails)
+}
+
+/// The ends of the lines of the lists of a row, given who signed one of them. It costs a look-up for
+/// each list, and if not the same certificates signed all of them, one for each certificate that
+/// signed one; lists that the same ones signed count once.
 fn row_tails<V: Vouch>(
     alloc: Global,
     question: &Question<'_, '_, V>,
     side: &Side<'_, '_>,
     lists: &[usize],
+    signers: &Cut,
 ) -> Result<Vec<String>, OutOfMemory>
     requires side { IsSide V.Vouch question.now side.now }
     requires issuer { AreOfIssuer question.now.found.now.items.now side.now.name.now lists.now }
     requires ascend { IsStrictlyIncreasing lists.now }
+    requires signers { IsCutOf (SignsAny (V.vouches_for question.now.vouch.now).Vouches question.now.found.now.items.now (others_of side.now) lists.now) signers.now }
     ensures { IfOk result (λ tails. (front : List ℕ) → AreRowLines (V.vouches_for question.now.vouch.now).Vouches question.now.found.now.items.now (others_of side.now) lists.now front (lines_of front tails.items)) }
 {
+    if are_alike(question, side, lists) {
+        let line = first_tail(alloc, lists, signers)?;
+        return Ok(line);
+    }
     let mut met = Met {
         numbers: BTreeSet::new(alloc),
         places: BTreeSet::new(alloc),
@@ -122,7 +165,8 @@ fn add_copies(texts: &mut Vec<String>, alloc: Global, more: &[String]) -> Result
     Ok(())
 }
 
-/// Adds the ends of the lines of the lists of a certificate's row, which are worked out once.
+/// Adds the ends of the lines of the lists of a certificate's row, which are worked out once. Who
+/// signed one of them is given.
 pub(crate) fn add_revoked<V: Vouch>(
     tails: &mut Vec<String>,
     alloc: Global,
@@ -130,6 +174,7 @@ pub(crate) fn add_revoked<V: Vouch>(
     question: &Question<'_, '_, V>,
     side: &Side<'_, '_>,
     revokers: Revokers<'_>,
+    signers: &Cut,
 ) -> Result<(), OutOfMemory>
     requires kept { AreRowTailsKept (V.vouches_for question.now.vouch.now).Vouches question.now.found.now.items.now (others_of side.now) question.now.revoking.now.rows.items kept.old }
     requires side { IsSide V.Vouch question.now side.now }
@@ -137,6 +182,7 @@ pub(crate) fn add_revoked<V: Vouch>(
     requires row { (r : Vec ℕ Global) → revokers.lists.now ≡ (slice_index_or question.now.revoking.now.rows.items revokers.number r).items }
     requires issuer { AreOfIssuer question.now.found.now.items.now side.now.name.now revokers.lists.now }
     requires ascend { IsStrictlyIncreasing revokers.lists.now }
+    requires signers { IsCutOf (SignsAny (V.vouches_for question.now.vouch.now).Vouches question.now.found.now.items.now (others_of side.now) revokers.lists.now) signers.now }
     ensures kept { OnOk result (AreRowTailsKept (V.vouches_for question.now.vouch.now).Vouches question.now.found.now.items.now (others_of side.now) question.now.revoking.now.rows.items kept.new) }
     ensures tails { OnOk result (AddsTails (AreRowLines (V.vouches_for question.now.vouch.now).Vouches question.now.found.now.items.now (others_of side.now) revokers.entry.lists.now) tails.old.items tails.new.items) }
 {
@@ -144,7 +190,7 @@ pub(crate) fn add_revoked<V: Vouch>(
         add_copies(tails, alloc, lines)?;
         return Ok(());
     }
-    let lines = row_tails(alloc, question, side, revokers.lists)?;
+    let lines = row_tails(alloc, question, side, revokers.lists, signers)?;
     add_copies(tails, alloc, &lines)?;
     kept.insert(revokers.number, lines)?;
     Ok(())

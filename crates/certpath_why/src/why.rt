@@ -24,6 +24,7 @@ use crate::processing::Processing;
 use crate::question::Question;
 use crate::reached::further_than;
 use crate::revoking::RevokingRows;
+use crate::sharing::SharedRows;
 use crate::signers::Signers;
 use crate::written::Written;
 use asn1_core::OutOfMemory;
@@ -140,6 +141,7 @@ fn push_why_by<'q, 'a, V: Vouch, S: Vouch>(
     let further = further_than(alloc, &found, target)?;
     let lists = ListsByIssuer::new(alloc, &found, target, &further, policy)?;
     let revoking = RevokingRows::new(alloc, &found, &lists, target, &further, policy)?;
+    let shared = SharedRows::new(alloc, &signers, &revoking.rows)?;
     let named = Named::new(alloc, &found, target, &further)?;
     let question = Question {
         found: &found,
@@ -152,6 +154,7 @@ fn push_why_by<'q, 'a, V: Vouch, S: Vouch>(
         signers: &signers,
         lists: &lists,
         revoking: &revoking,
+        shared: &shared,
         named: &named,
         policy,
     };

@@ -10,6 +10,7 @@ use Rattle.certpath_why.specs.Named.{AreGathered}
 use Rattle.certpath_why.proofs.Backing.{bare_none}
 use Rattle.certpath_why.proofs.Bounding.{no_bound, of_none, of_more, of_all}
 use Rattle.certpath_why.proofs.Searching.{none_done}
+use Rattle.certpath_why.proofs.Signed.{first_below}
 use Rattle.certpath_why.proofs.Tailing.{written_none}
 use Rattle.certpath_why.proofs.Spreading.{further_certificate}
 use Rattle.certpath_why.proofs.bounds.bound_marks.Goals as goal
@@ -24,7 +25,7 @@ returns-then-not-has_bound g c =
     (λ h. not_both _ (c.has_bound.ensures.1 (h.0, (let lt = h.1 in omega arith), h.2)) c.if-not-has_bound.true)
 
 pub mark_from-requires-clause-firsts : goal.mark_from-requires-clause-firsts
-mark_from-requires-clause-firsts g c = rw c.deref.ensures.value c.in_ok-firsts.ensures
+mark_from-requires-clause-firsts g c = rw c.deref-3.ensures.value c.in_ok-firsts.ensures
 
 pub mark_from-requires-clause-held : goal.mark_from-requires-clause-held
 mark_from-requires-clause-held g c = c.loop-place.invariant.0
@@ -34,12 +35,13 @@ loop-place-init g c =
     let q = c.args.question.now in
     let V = g.S.Vouch.vouches_for c.args.search.now in
     let xs = q.found.now.items.now in
-    let firsts = c.deref.result.now in
+    let firsts = c.deref-3.result.now in
+    let shared = c.deref-4.result.now in
     let reach = reach_by c.args.answer.now in
     let r = rules_by q.policy.now.moment q.policy.now.demand_lists V in (
       record {
         done = none_done q V firsts reach c.new.result c.in_ok-marks.marks.items c.new.ensures.empty;
-        groups = written_none xs (IsSearchGroup q firsts) (λ y. AreGathered xs (MayHoldBack (search_rules q V) (items_in q) reach y)) c.new-2.result c.new-2.ensures.empty;
+        groups = written_none xs (IsSearchGroup q firsts shared) (λ y. AreGathered xs (MayHoldBack (search_rules q V) (items_in q) reach y)) c.new-2.result c.new-2.ensures.empty;
         bare = bare_none c.new-2.result c.in_ok-marks.marks.items c.new-2.ensures.empty;
       },
       of_none (IsHeldBack r (items_in q) reach) c.args.further.now c.in_ok-marks.marks.items,
@@ -64,3 +66,11 @@ returns g c = of_all (IsHeldBack (rules_by c.args.question.now.policy.now.moment
 
 pub mark_from-requires-clause-number : goal.mark_from-requires-clause-number
 mark_from-requires-clause-number g c = c.requires.reached _ (Contains-get_or c.args.further.now c.loop-place.place-index 0 c.loop-place-test.true)
+
+pub shared_by-requires : goal.shared_by-requires
+shared_by-requires g c =
+    let q = c.args.question.now in
+    rw c.deref.ensures.value (first_below (g.S.Vouch.vouches_for c.args.search.now).Vouches q.found.now.items.now q.found.now.items.now q.signers.now.classes c.in_ok-firsts.firsts.items c.in_ok-firsts.ensures)
+
+pub mark_from-requires-clause-shared : goal.mark_from-requires-clause-shared
+mark_from-requires-clause-shared g c = rw (c.deref-3.ensures.value, c.deref-4.ensures.value) (rw (c.deref.ensures.value, c.deref-2.ensures.value) at c.in_ok-shared.ensures)

@@ -1,4 +1,4 @@
-use Rattle.std.proofs.Common.{sym, inl, inr}
+use Rattle.std.proofs.Common.{sym, inl, inr, arith}
 use Rattle.std.specs.List.{Contains}
 use Rattle.certpath_why.specs.Bounds.{reach_by}
 use Rattle.certpath_why.specs.Held.{search_rules, IsSearchGroup, MayHoldBack}
@@ -83,8 +83,8 @@ returns-clause-groups g c =
     let reach = reach_by c.args.searched.now.answer.now in
     let under = c.in_ok-under.under in
     let kind = c.in_ok-kind.ensures in
-    written_more xs (IsSearchGroup q c.args.searched.now.firsts.now) (λ y. AreGathered xs (MayHoldBack (search_rules q V) (items_in q) reach y)) c.args.groups.now c.insert.new.self c.in_ok-kind.kind under c.requires.groups
-    (λ p y at k. group_alike V moment demand xs q.signers.now.classes q.revoking.now.rows.items c.args.searched.now.firsts.now reach c.args.place p x y c.in_ok-kind.kind.items under c.requires.firsts c.requires.at at kind k c.in_ok-under.ensures) (λ z. c.in_ok-insert.ensures.updates.0 z)
+    written_more xs (IsSearchGroup q c.args.searched.now.firsts.now c.args.searched.now.shared.now) (λ y. AreGathered xs (MayHoldBack (search_rules q V) (items_in q) reach y)) c.args.groups.now c.insert.new.self c.in_ok-kind.kind under c.requires.groups
+    (λ p y at k. group_alike V moment demand xs q.signers.now.classes q.revoking.now.rows.items c.args.searched.now.shared.now c.args.searched.now.firsts.now reach c.args.place p x y c.in_ok-kind.kind.items under c.requires.firsts c.requires.shared c.requires.at at kind k c.in_ok-under.ensures) (λ z. c.in_ok-insert.ensures.updates.0 z)
 
 pub returns-clause-bare : goal.returns-clause-bare
 returns-clause-bare g c =
@@ -109,3 +109,6 @@ returns-clause-marks g c =
     let are = c.in_ok-under.ensures in
     let exact = c.in_ok-named-2.ensures xs (gathered_there V moment demand xs reach x under are) (certificates_there V moment demand xs reach x under are) in
     marks_both V moment demand xs reach x under are c.in_ok-named-2.named.items exact c.args.marks.now.items c.mark_all-2.new.marks.items c.mark_all-3.new.marks.items (rw c.deref-2.ensures.value at c.mark_all-2.ensures) (rw c.deref-3.ensures.value at c.mark_all-3.ensures)
+
+pub held_group-requires-clause-shared : goal.held_group-requires-clause-shared
+held_group-requires-clause-shared g c = let count = c.requires.shared.count in let lt = c.requires.row.0 in omega arith

@@ -8,8 +8,8 @@ use Rattle.certpath_why.proofs.Issues.{linked_iff}
 use Rattle.certpath_why.proofs.Naming.{gathered_as}
 use Rattle.certpath_why.proofs.certificates.groups_from.Goals as goal
 
-pub returns : goal.returns
-returns g c =
+pub returns-clause-groups : goal.returns-clause-groups
+returns-clause-groups g c =
     let q = c.args.question.now in
     let x = c.args.certificate.now in
     let V = g.V.Vouch.vouches_for q.vouch.now in
@@ -24,3 +24,6 @@ returns g c =
           (λ w. let iff = linked_iff V q.policy.now.moment q.policy.now.demand_lists q.found.now.items.now x w in (λ y. iff.0 ((exact w).0 y.0, y.1), λ l. let y = iff.1 l in ((exact w).1 y.0, y.1))) linked;
       unvouched = let u = c.requires.unvouched in (u.0, u.1, c.in_ok-unvouched.ensures u.0 u.2);
     }
+
+pub returns-clause-revoked : goal.returns-clause-revoked
+returns-clause-revoked g c = λ row places. let u = c.requires.revoked row places in (u.0, u.1, c.in_ok-revoked.ensures u.0 u.2)

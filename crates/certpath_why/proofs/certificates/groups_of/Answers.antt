@@ -1,7 +1,7 @@
 use Rattle.std.proofs.Common.{sym}
 use Rattle.certpath_why.specs.Issuing.{IsIssued}
 use Rattle.certpath_why.specs.Kinds.{IsGroupKind}
-use Rattle.certpath_why.specs.Question.{items_in, rules_in}
+use Rattle.certpath_why.specs.Question.{rules_in}
 use Rattle.certpath_why.proofs.Issues.{issued_alike}
 use Rattle.certpath_why.proofs.Tailing.{written_more}
 use Rattle.certpath_why.proofs.certificates.groups_of.Goals as goal
@@ -33,8 +33,8 @@ returns-clause-kept g c =
     let issued = rw c.requires.others at c.in_ok-issued.ensures.issued in
     record {
       tails = c.requires.kept.tails;
-      issued = written_more xs (IsGroupKind q) (IsIssued (rules_in g.V.Vouch q) (items_in q) xs) c.args.kept.now.issued c.insert.new.self c.in_ok-kind.kind c.in_ok-issued.issued c.requires.kept.issued
-          (λ p y at k. issued_alike V q.policy.now.moment q.policy.now.demand_lists xs xs q.signers.now.classes q.revoking.now.rows.items q.signers.now.issuer_firsts.items c.args.place p x y c.in_ok-kind.kind c.in_ok-issued.issued c.requires.signed.issuer_firsts c.requires.at at kind k issued) (λ z. c.in_ok-insert.ensures.updates.0 z);
+      issued = written_more xs (IsGroupKind q) (IsIssued (rules_in g.V.Vouch q) q.policy.now.moment xs xs) c.args.kept.now.issued c.insert.new.self c.in_ok-kind.kind c.in_ok-issued.issued c.requires.kept.issued
+          (λ p y at k. issued_alike V q.policy.now.moment q.policy.now.demand_lists xs xs q.signers.now.classes q.revoking.now.rows.items q.shared.now.issuers.items q.signers.now.issuer_firsts.items c.args.place p x y c.in_ok-kind.kind c.in_ok-issued.issued c.requires.signed.issuer_firsts c.requires.signed.issuer_shared c.requires.at at kind k issued) (λ z. c.in_ok-insert.ensures.updates.0 z);
       used = rw c.requires.others at c.in_ok-issued.ensures.used;
       revoked = c.requires.kept.revoked;
       differing = c.requires.kept.differing;

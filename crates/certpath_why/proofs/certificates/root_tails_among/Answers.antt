@@ -13,7 +13,7 @@ use Rattle.certpath_why.proofs.Using.{issuers_there}
 use Rattle.certpath_why.proofs.certificates.root_tails_among.Goals as goal
 
 pub add_revoked-requires-clause-kept : goal.add_revoked-requires-clause-kept
-add_revoked-requires-clause-kept g c = rw c.requires.others c.requires.kept.revoked
+add_revoked-requires-clause-kept g c = rw c.requires.others c.in_ok-groups.ensures.kept.revoked
 
 pub add_revoked-requires-clause-number : goal.add_revoked-requires-clause-number
 add_revoked-requires-clause-number g c = c.requires.revokers.is_row.0
@@ -30,11 +30,12 @@ pub add_revoked-requires-clause-ascend : goal.add_revoked-requires-clause-ascend
 add_revoked-requires-clause-ascend g c = c.requires.revokers.are.ascends
 
 pub add_lacking-requires-clause-kept : goal.add_lacking-requires-clause-kept
-add_lacking-requires-clause-kept g c = rw c.requires.others c.in_ok-groups.ensures.used
+add_lacking-requires-clause-kept g c = rw c.requires.others c.in_ok-groups.ensures.kept.used
 
 pub returns-clause-kept : goal.returns-clause-kept
 returns-clause-kept g c = record {
-  tails = c.requires.kept.tails;
+  tails = c.in_ok-groups.ensures.kept.tails;
+  issued = c.in_ok-groups.ensures.kept.issued;
   used = rw c.requires.others at c.in_ok-add_lacking.ensures.kept;
   revoked = rw c.requires.others at c.in_ok-add_revoked.ensures.kept;
 }
@@ -66,3 +67,6 @@ returns-clause-tails g c =
     (no_tail (λ front. TellsGroup front (Some KeyIdsDiffer) (F KeyIdsDiffer)) c.add_cut-2.new.tails.items (λ front. no_group front (Some KeyIdsDiffer) (F KeyIdsDiffer) (none_differing_there anchors (certificate_of x))))
     (first_tails V moment demand xs anchors x Agree row lists _ _ revoked)
     (subst (λ (n : List ℕ). AddsTails (λ front. TellsGroup front (Some NoUsedList) (LacksListAt r items anchors n)) c.add_revoked.new.tails.items c.add_lacking.new.tails.items) x.issuer_is lacking)
+
+pub add_revoked-requires-clause-signers : goal.add_revoked-requires-clause-signers
+add_revoked-requires-clause-signers g c = rw c.requires.others (c.in_ok-groups.ensures.revoked c.args.revokers.lists.now c.requires.revokers.are)

@@ -71,3 +71,6 @@ returns-clause-tails g c =
     differing
     (first_tails V moment demand xs items x Agree row lists _ _ revoked)
     (subst (λ (n : List ℕ). AddsTails (λ front. TellsGroup front (Some NoUsedList) (LacksListAt r items items n)) c.add_revoked.new.tails.items c.add_lacking.new.tails.items) x.issuer_is lacking)
+
+pub add_revoked-requires-clause-signers : goal.add_revoked-requires-clause-signers
+add_revoked-requires-clause-signers g c = rw c.requires.others (c.in_ok-groups.ensures.revoked c.args.revokers.lists.now c.requires.revokers.are)

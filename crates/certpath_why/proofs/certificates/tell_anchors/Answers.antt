@@ -49,6 +49,7 @@ returns-clause-written g c =
     record {
       tails = written_more q.found.now.items.now (IsAnchorKind q) (λ x (tails : Vec (String Global) Global). AreAnchorTails g.V.Vouch q x tails.items) c.tails_to_anchors.new.kept.tails c.insert.new.self c.in_ok-kind.kind c.in_ok-tails.tails c.in_ok-tails.ensures.kept.tails
           (λ p y at k. anchors_alike V q.policy.now.moment q.policy.now.demand_lists q.found.now.items.now q.found.now.anchors.now q.signers.now.classes q.revoking.now.rows.items q.signers.now.root_firsts.items c.args.place p x y c.in_ok-kind.kind c.in_ok-tails.tails.items c.requires.signed.root_firsts c.requires.at at kind k are) (λ z. c.in_ok-insert.ensures.updates.0 z);
+      issued = c.in_ok-tails.ensures.kept.issued;
       used = c.in_ok-tails.ensures.kept.used;
       revoked = c.in_ok-tails.ensures.kept.revoked;
     }

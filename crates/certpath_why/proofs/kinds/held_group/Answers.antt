@@ -8,5 +8,5 @@ returns g c = record {
   first_is = c.requires.first;
   row = c.args.row;
   row_is = c.requires.row;
-  kind_is = c.in_ok-kind.ensures ∙ ap (λ n. kind_numbers c.args.first n c.args.row None) c.number_by-shared.ensures;
+  kind_is = c.in_ok-kind.ensures ∙ ap (λ n. kind_numbers c.args.first n c.shared_at-number.result None) c.number_by-signed.ensures ∙ ap (λ m. kind_numbers c.args.first _ m None) c.shared_at-number.ensures;
 }

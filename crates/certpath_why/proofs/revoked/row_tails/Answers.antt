@@ -4,7 +4,7 @@ use Rattle.cert_reasons.specs.declared.links.Unlinked.TheVariants.{RevokedBy}
 use Rattle.certpath_why.specs.Against.{IsLineOf}
 use Rattle.certpath_why.specs.Revoked.{SignsFirst}
 use Rattle.certpath_why.specs.Sides.{others_of}
-use Rattle.certpath_why.proofs.Revokers.{held_none, held_more, line_here, row_lines, met_none}
+use Rattle.certpath_why.proofs.Revokers.{first_line, held_none, held_more, line_here, row_lines, met_none}
 use Rattle.certpath_why.proofs.Tailing.{tails_none, tails_more, tails_all}
 use Rattle.certpath_why.proofs.revoked.row_tails.Goals as goal
 
@@ -49,3 +49,14 @@ returns g c =
     let row = c.args.lists.now in
     let P : List ℕ → ℕ → List ℕ → Type 0 = λ front p. IsLineOf front (Some (RevokedBy p)) (SignsFirst V xs others row p) in
     row_lines V xs others row c.requires.ascend c.loop-list.tails.items (tails_all P row c.loop-list.list-index [] c.loop-list.tails.items c.loop-list-test.false c.loop-list.invariant.0)
+
+pub are_alike-requires-clause-issuer : goal.are_alike-requires-clause-issuer
+are_alike-requires-clause-issuer g c = c.requires.issuer
+
+pub returns-then-are_alike : goal.returns-then-are_alike
+returns-then-are_alike g c =
+    let q = c.args.question.now in
+    let side = c.args.side.now in
+    let V = (g.V.Vouch.vouches_for q.vouch.now).Vouches in
+    first_line V q.found.now.items.now side.others.now q.signers.now.classes side.firsts.now c.requires.side.firsts side.name.now c.args.lists.now c.args.signers.now c.in_ok-line.line.items
+    c.requires.ascend c.requires.issuer (c.are_alike.ensures c.if-are_alike.true) c.requires.signers c.in_ok-line.ensures

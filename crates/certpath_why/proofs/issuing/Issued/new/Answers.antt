@@ -1,13 +1,15 @@
-use Rattle.std.proofs.Common.{◌∙◌, ap, sym, Some}
+use Rattle.std.proofs.Common.{◌∙◌, ap, sym, ℕ, Some}
 use Rattle.std.specs.List.{Contains}
 use Rattle.cert_judge.specs.declared.items.ReadItem.TheVariants.{Certificate as certificate_read}
 use Rattle.certpath_why.specs.Issuing.{IsIssuedAt}
 use Rattle.certpath_why.specs.Question.{items_in, rules_in}
 use Rattle.certpath_why.specs.Ranges.{IsInRanges}
 use Rattle.certpath_why.specs.Sides.{others_of}
+use Rattle.certpath_why.proofs.Fating.{ranges_as}
 use Rattle.certpath_why.proofs.Grouped.{unvouched_cut}
 use Rattle.certpath_why.proofs.Issues.{issued_positions}
 use Rattle.certpath_why.proofs.Naming.{gathered_as}
+use Rattle.certpath_why.proofs.Sharing.{any_of}
 use Rattle.certpath_why.proofs.Spacing.{ranges_spaced}
 use Rattle.certpath_why.proofs.Using.{issuers_there}
 use Rattle.certpath_why.proofs.issuing.Issued.new.Goals as goal
@@ -70,5 +72,8 @@ returns-clause-issued g c =
     let named = rw c.requires.name at c.requires.side.named in
     record {
       unvouched = unvouched_cut V.Vouches side.others.now x side.named.now signers c.in_ok-unvouched.unvouched named signed.exact (rw (c.deref-6.ensures.value, c.deref-7.ensures.value) at c.in_ok-unvouched.ensures);
+      revoked = λ row places.
+          let iff = λ (w : ℕ). (λ a. any_of V.Vouches xs q.policy.now.moment others x c.args.revoking.now row revoking places w ((revokers.exact w).0 a), λ s. (revokers.exact w).1 (any_of V.Vouches xs q.policy.now.moment others x row c.args.revoking.now places revoking w s)) in
+          (against, ranges_as against iff ranges, rw c.deref-8.ensures.value at c.in_ok-revoked.ensures);
       under = gathered_as side.others.now (Contains issuers) (IsIssuedAt (rules_in g.V.Vouch q) (items_in q) others x) c.in_ok-under.under iff (rw c.deref-5.ensures.value at c.in_ok-under.ensures);
     }
